@@ -1,0 +1,4 @@
+pub mod Joins
+pub mod Ranges
+pub mod Nearness
+pub mod Taken

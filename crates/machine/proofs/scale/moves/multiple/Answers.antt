@@ -1,0 +1,8 @@
+use native.Mathlib.Omega.{arith}
+use Rattle.machine.proofs.Ranges.{increment-least, increment-most}
+use Rattle.machine.proofs.scale.moves.multiple.Needs as need
+
+pub ghost-div-nearest-2 : need.ghost-div-nearest-2
+ghost-div-nearest-2 c =
+    let most = increment-most _ (c .pre .0) in
+    (increment-least _ (c .pre .0), (omega arith, tt))

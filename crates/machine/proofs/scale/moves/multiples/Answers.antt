@@ -1,0 +1,14 @@
+use native.Mathlib.Omega.{arith}
+use Rattle.std.proofs.shelf.Signed.{ints}
+use Rattle.units.specs.declared.axis.Axis.the-variants.{X, Y, Z}
+use Rattle.machine.proofs.Ranges.{on-axis}
+use Rattle.machine.proofs.scale.moves.multiples.Needs as need
+
+pub multiple-requires : need.multiple-requires
+multiple-requires c κs = let w = on-axis _ (c .args .to) (c .pre .placed) X in (c .pre .sized, omega (arith, ints))
+
+pub multiple-requires-2 : need.multiple-requires-2
+multiple-requires-2 c κs = let w = on-axis _ (c .args .to) (c .pre .placed) Y in (c .pre .sized, omega (arith, ints))
+
+pub multiple-requires-3 : need.multiple-requires-3
+multiple-requires-3 c κs = let w = on-axis _ (c .args .to) (c .pre .placed) Z in (c .pre .sized, omega (arith, ints))

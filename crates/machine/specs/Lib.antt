@@ -1,0 +1,6 @@
+pub mod Ranges
+pub mod Meaning
+pub mod Replies
+pub mod Joined
+pub mod Area
+pub mod Scale

@@ -1,0 +1,93 @@
+// Making a scale end, and its moves.
+ghost use mathlib.Core.Path.{_≡_};
+ghost use mathlib.Core.Bool.{true, false};
+ghost use Prim.Native.Nat.{ℕ, _≤_};
+ghost use lib.IntN.{natAbs};
+ghost use Rattle.std.specs.declared.result.Result.the-variants.{Ok, Err};
+ghost use Rattle.units.specs.declared.fault.Fault.the-variants.{Argument};
+ghost use Rattle.machine.specs.Ranges.{within, increment-fits};
+ghost use Rattle.machine.specs.Meaning.{each, origin};
+ghost use Rattle.machine.specs.Scale.{nearestMultiple, scaleMeaning};
+use crate::bounds::Bounds;
+use crate::bounds::make::coordinate;
+use crate::bounds::make::fair_increment;
+use crate::end::MachineEnd;
+use crate::end::axis_of;
+use crate::scale::ScaleEnd;
+use units::axis::Point;
+use units::axis::Side;
+use units::division::div_nearest;
+use units::fault::Fault;
+use units::quantity::Dividend;
+use units::quantity::Divisor;
+
+impl ScaleEnd {
+    /// At 0, 0, 0; `Fault::Argument` where the increment is not 1 to 100,000.
+    pub fn new(increment: u32, bounds: Bounds) -> Result<ScaleEnd, Fault>
+        ensures { λ r. ⌜ elim r [ Ok e ↦ (increment-fits increment ≡ true) × (scaleMeaning (e .increment) (e .bounds) (e .position) ≡ scaleMeaning increment bounds origin) | Err f ↦ (increment-fits increment ≡ false) × (f ≡ Argument) ] ⌝ }
+    {
+        if !fair_increment(increment) {
+            return Err(Fault::Argument);
+        }
+        Ok(ScaleEnd {
+            bounds,
+            increment,
+            position: Point { x: 0, y: 0, z: 0 },
+        })
+    }
+}
+
+fn multiple(increment: u32, v: i64) -> i64
+    requires { ⌜ increment-fits increment ≡ true ⌝ ∗ ⌜ natAbs v ≤ 2000000000 ⌝ }
+    ensures { λ r. ⌜ r ≡ nearestMultiple increment v ⌝ }
+{
+    div_nearest(Dividend { value: v }, Divisor { value: increment }) * i64::from(increment)
+}
+
+fn multiples(increment: u32, to: Point) -> Point
+    requires sized { ⌜ increment-fits increment ≡ true ⌝ }
+    requires placed { ⌜ within 2000000000 to ≡ true ⌝ }
+    ensures { λ r. ⌜ r ≡ each (λ a. nearestMultiple increment) to ⌝ }
+{
+    Point {
+        x: multiple(increment, to.x),
+        y: multiple(increment, to.y),
+        z: multiple(increment, to.z),
+    }
+}
+
+pub impl MachineEnd for ScaleEnd as ScaleMachineEnd {
+    ghost meaning = { λ e. scaleMeaning (e .increment) (e .bounds) (e .position) };
+
+    fn take_move(&mut self, to: Point) -> Result<(), Fault> {
+        self.bounds.admit(to)?;
+        self.position = multiples(self.increment, to);
+        Ok(())
+    }
+
+    fn ask_move(&self, to: Point) -> Result<(), Fault> {
+        self.bounds.admit(to)
+    }
+
+    fn box_count(&self) -> u8 {
+        1
+    }
+
+    fn limit(&self, level: usize, axis: u8, side: Side) -> Result<i64, Fault> {
+        if level > 0 {
+            return Err(Fault::Argument);
+        }
+        let a = axis_of(axis)?;
+        Ok(coordinate(self.bounds.limits_of(side), a))
+    }
+
+    fn increment(&self, axis: u8) -> Result<u32, Fault> {
+        let _ = axis_of(axis)?;
+        Ok(self.increment)
+    }
+
+    fn held(&self, axis: u8) -> Result<i64, Fault> {
+        let a = axis_of(axis)?;
+        Ok(coordinate(self.position, a))
+    }
+}
