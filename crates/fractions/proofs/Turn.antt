@@ -5,8 +5,8 @@ use native.Mathlib.Omega.{arith}
 use native.Mathlib.Nat.{mul-le-mul-right, mul-le-mul-left, mul-le-mul, le-of-mul-le-mul-right, le-of-mul-le-mul-left, mul-pos, le-trans, le-of-eq, lt-div-mul-add, le-max-left}
 use lib.IntN.{ℤ, pos, negsuc, _+ℤ_, _-ℤ_, _*ℤ_, negℤ, natAbs}
 use borrow.Author.Differences.{ints}
-use Rattle.near.specs.Fraction.{up-div}
-use Rattle.near.proofs.Ring.{is, is-pos, is-add, is-sub, is-neg, is-mul, is-same, abs-mul, abs-neg, abs-add, abs-sub}
+use Rattle.fractions.specs.Fractions.{ceiling}
+use Rattle.fractions.proofs.Ring.{is, is-pos, is-add, is-sub, is-neg, is-mul, is-same, abs-mul, abs-neg, abs-add, abs-sub}
 
 -- one product: told number C times told coordinate i, against exact cn / W times exact Ie / q
 cross : (x y a b : ℤ) → x *ℤ a -ℤ b *ℤ y ≡ x *ℤ (a -ℤ b) +ℤ b *ℤ (x -ℤ y)
@@ -50,8 +50,8 @@ rounded R K x y I = is-same
 together : (a b a′ b′ o : ℤ) → natAbs (o -ℤ (a′ -ℤ b′)) ≤ natAbs (o -ℤ (a -ℤ b)) + natAbs (a -ℤ a′) + natAbs (b -ℤ b′)
 together a b a′ b′ o = omega (arith, ints)
 
-pub up-div-is : (n d : ℕ) → 0 < d → n ≤ d * up-div n d
-up-div-is n d h = let l = lt-div-mul-add {a = n + (d - 1)} h in omega arith
+pub ceiling-is : (n d : ℕ) → 0 < d → n ≤ d * ceiling n d
+ceiling-is n d h = let l = lt-div-mul-add {a = n + (d - 1)} h in omega arith
 
 count : (R W q m E h ai aj ac an k1 k2 : ℕ) → 0 < R → R * E ≤ W * q * h + (ai * q * W + R * ac * (m * q)) + (aj * q * W + R * an * (m * q)) → 2 * h ≤ R → 2 * (ac + an) ≤ 3 * W → 3 * m ≤ 2 * k1 → ai + aj ≤ R * k2 → E ≤ (k1 + k2 + 1) * (W * q)
 count R W q m E h ai aj ac an k1 k2 p e n1 n2 n3 n4 =
@@ -66,15 +66,15 @@ pub turn-near : (R W q m : ℕ) (i j Ie Je C S cn sn I : ℤ) → 0 < R →
     natAbs (i *ℤ pos q -ℤ Ie) ≤ m * q → natAbs (j *ℤ pos q -ℤ Je) ≤ m * q →
     natAbs (C *ℤ pos W -ℤ pos R *ℤ cn) ≤ W → natAbs (S *ℤ pos W -ℤ pos R *ℤ sn) ≤ W → 2 * (natAbs cn + natAbs sn) ≤ 3 * W →
     2 * natAbs ((C *ℤ i -ℤ S *ℤ j) -ℤ I *ℤ pos R) ≤ R →
-    natAbs (I *ℤ pos (W * q) -ℤ (cn *ℤ Ie -ℤ sn *ℤ Je)) ≤ (up-div (3 * m) 2 + up-div (natAbs i + natAbs j) R + 1) * (W * q)
+    natAbs (I *ℤ pos (W * q) -ℤ (cn *ℤ Ie -ℤ sn *ℤ Je)) ≤ (ceiling (3 * m) 2 + ceiling (natAbs i + natAbs j) R + 1) * (W * q)
 turn-near R W q m i j Ie Je C S cn sn I p di dj gc gs reach close =
-    count R W q m (natAbs z) (natAbs h) (natAbs i) (natAbs j) (natAbs cn) (natAbs sn) (up-div (3 * m) 2) (up-div (natAbs i + natAbs j) R) p
+    count R W q m (natAbs z) (natAbs h) (natAbs i) (natAbs j) (natAbs cn) (natAbs sn) (ceiling (3 * m) 2) (ceiling (natAbs i + natAbs j) R) p
     (sized (sym (abs-mul (pos R) z) ∙ ap natAbs (outer R (W * q) I (cn *ℤ Ie) (sn *ℤ Je)))
     (together (pos (W * q) *ℤ (C *ℤ i)) (pos (W * q) *ℤ (S *ℤ j)) (pos R *ℤ (cn *ℤ Ie)) (pos R *ℤ (sn *ℤ Je)) (pos (W * q) *ℤ (I *ℤ pos R)))
     (ap natAbs (rounded R (W * q) (C *ℤ i) (S *ℤ j) I) ∙ abs-neg (pos (W * q) *ℤ h) ∙ abs-mul (pos (W * q)) h)
     (product-near R W q m i Ie C cn di gc)
     (product-near R W q m j Je S sn dj gs))
-    close reach (up-div-is (3 * m) 2 (omega arith)) (up-div-is (natAbs i + natAbs j) R p)
+    close reach (ceiling-is (3 * m) 2 (omega arith)) (ceiling-is (natAbs i + natAbs j) R p)
   where
     z : ℤ
     z = I *ℤ pos (W * q) -ℤ (cn *ℤ Ie -ℤ sn *ℤ Je)
@@ -92,12 +92,12 @@ scale-split F q f x Xe I = is-same
     (is-sub (is-mul (is-pos f) (is-sub (is-mul (is x) (is-pos q)) (is Xe))) (is-mul (is-pos q) (is-sub (is-mul (is-pos f) (is x)) (is-mul (is I) (is-pos F)))))
     (omega arith)
 
-pub scale-near : (F q r f e : ℕ) (x Xe I : ℤ) → 0 < F → natAbs (x *ℤ pos q -ℤ Xe) ≤ r * q → natAbs (pos f *ℤ x -ℤ I *ℤ pos F) ≤ e * F → natAbs (I *ℤ pos (F * q) -ℤ pos f *ℤ Xe) ≤ (up-div (r * max f F) F + e) * (F * q)
+pub scale-near : (F q r f e : ℕ) (x Xe I : ℤ) → 0 < F → natAbs (x *ℤ pos q -ℤ Xe) ≤ r * q → natAbs (pos f *ℤ x -ℤ I *ℤ pos F) ≤ e * F → natAbs (I *ℤ pos (F * q) -ℤ pos f *ℤ Xe) ≤ (ceiling (r * max f F) F + e) * (F * q)
 scale-near F q r f e x Xe I p d c =
     rw (scale-split F q f x Xe I)
     (counted (abs-sub (pos f *ℤ (x *ℤ pos q -ℤ Xe)) (pos q *ℤ (pos f *ℤ x -ℤ I *ℤ pos F)))
     (abs-mul (pos f) (x *ℤ pos q -ℤ Xe)) (abs-mul (pos q) (pos f *ℤ x -ℤ I *ℤ pos F))
-    (mul-le-mul-left f d) (mul-le-mul-left q c) (mul-le-mul-left (r * q) (le-max-left f F)) (mul-le-mul-right q (up-div-is (r * max f F) F p)))
+    (mul-le-mul-left f d) (mul-le-mul-left q c) (mul-le-mul-left (r * q) (le-max-left f F)) (mul-le-mul-right q (ceiling-is (r * max f F) F p)))
   where
-    counted : {s a b a′ b′ : ℕ} → s ≤ a + b → a ≡ a′ → b ≡ b′ → a′ ≤ f * (r * q) → b′ ≤ q * (e * F) → r * q * f ≤ r * q * max f F → r * max f F * q ≤ F * up-div (r * max f F) F * q → s ≤ (up-div (r * max f F) F + e) * (F * q)
+    counted : {s a b a′ b′ : ℕ} → s ≤ a + b → a ≡ a′ → b ≡ b′ → a′ ≤ f * (r * q) → b′ ≤ q * (e * F) → r * q * f ≤ r * q * max f F → r * max f F * q ≤ F * ceiling (r * max f F) F * q → s ≤ (ceiling (r * max f F) F + e) * (F * q)
     counted h g k l n m o = omega arith

@@ -11,7 +11,7 @@ use mir.Syntax.{w64}
 use borrow.Author.Differences.{ints}
 use Rattle.turns.specs.Reference.{whole, NearTo, Exactly, OctantLaw, cosine, sine, quarterCosine, quarterSine, quartersCosine, quartersSine, cosineOf, sineOf}
 use Rattle.turns.specs.Numbers.{octantC, octantS, quarterC, quarterS, turnC, turnS}
-use Rattle.turns.proofs.Ring.{is, is-pos, is-sub, is-neg, is-mul, is-same, abs-neg}
+use Rattle.fractions.proofs.Ring.{is, is-pos, is-sub, is-neg, is-mul, is-same, abs-neg}
 
 flip : (R W : ℕ) (s S : ℤ) → negℤ s *ℤ pos W -ℤ pos R *ℤ negℤ S ≡ negℤ (s *ℤ pos W -ℤ pos R *ℤ S)
 flip R W s S = is-same

@@ -5,11 +5,11 @@ use native.Mathlib.Omega.{arith}
 use native.Mathlib.Nat.{mul-le-mul-right, le-trans, le-of-eq, mul-comm}
 use lib.IntN.{ℤ, pos, negsuc, _+ℤ_, _-ℤ_, _*ℤ_, negℤ, natAbs}
 use borrow.Author.Differences.{ints}
-use Rattle.near.specs.Fraction.{Frac, Within, sum, difference, product, over, shifted, mirrored, one-if, scaleSpread, up-div}
-use Rattle.near.proofs.Ring.{is, is-pos, is-add, is-sub, is-neg, is-mul, is-by, is-same, abs-mul, abs-neg}
-use Rattle.divn.specs.Nearest.{Nearest}
-use Rattle.divn.proofs.Round.{exact-if}
-use Rattle.near.proofs.Turn.{turn-near, scale-near}
+use Rattle.fractions.specs.Fractions.{Frac, Within, Equals, sum, difference, product, over, shifted, negated, one-if, ceiling}
+use Rattle.fractions.proofs.Ring.{is, is-pos, is-add, is-sub, is-neg, is-mul, is-by, is-same, abs-mul, abs-neg}
+use Rattle.units.specs.Nearest.{Nearest}
+use Rattle.units.proofs.Round.{exact-if}
+use Rattle.fractions.proofs.Turn.{turn-near, scale-near}
 
 -- numerator and denominator times k
 widen-is : (t num : ℤ) (den k : ℕ) → t *ℤ pos (den * k) -ℤ num *ℤ pos k ≡ (t *ℤ pos den -ℤ num) *ℤ pos k
@@ -41,7 +41,7 @@ pub turn-near-2 : (R W q m : ℕ) (i j Ie Je C S cn sn J : ℤ) → 0 < R →
     natAbs (i *ℤ pos q -ℤ Ie) ≤ m * q → natAbs (j *ℤ pos q -ℤ Je) ≤ m * q →
     natAbs (C *ℤ pos W -ℤ pos R *ℤ cn) ≤ W → natAbs (S *ℤ pos W -ℤ pos R *ℤ sn) ≤ W → 2 * (natAbs cn + natAbs sn) ≤ 3 * W →
     2 * natAbs ((S *ℤ i +ℤ C *ℤ j) -ℤ J *ℤ pos R) ≤ R →
-    natAbs (J *ℤ pos (W * q) -ℤ (sn *ℤ Ie +ℤ cn *ℤ Je)) ≤ (up-div (3 * m) 2 + up-div (natAbs i + natAbs j) R + 1) * (W * q)
+    natAbs (J *ℤ pos (W * q) -ℤ (sn *ℤ Ie +ℤ cn *ℤ Je)) ≤ (ceiling (3 * m) 2 + ceiling (natAbs i + natAbs j) R + 1) * (W * q)
 turn-near-2 R W q m i j Ie Je C S cn sn J p di dj gc gs reach close =
     rw (minus-minus (sn *ℤ Ie) cn Je) at
     (turn-near R W q m i j Ie Je S (negℤ C) sn (negℤ cn) J p di dj gs
@@ -71,7 +71,7 @@ minus-is W p q c s x y = sub-by (c *ℤ (x *ℤ pos q)) (s *ℤ (y *ℤ pos p)) 
 plus-is : (W p q : ℕ) (c s x y : ℤ) → (s *ℤ (x *ℤ pos q) +ℤ c *ℤ (y *ℤ pos p)) *ℤ pos W ≡ s *ℤ x *ℤ pos (W * q) +ℤ c *ℤ y *ℤ pos (W * p)
 plus-is W p q c s x y = add-by (s *ℤ (x *ℤ pos q)) (c *ℤ (y *ℤ pos p)) W ∙ ap₂ _+ℤ_ (factor-is W q s x) (factor-is W p c y)
 
--- a turn, as the document has it: i' = c × i - s × j and j' = s × i + c × j
+-- a turn: i' = c × i - s × j and j' = s × i + c × j
 module _ (R W m : ℕ) (i j C S cn sn : ℤ) (ie je : Frac) (p : 0 < R) (di : Within i ie m) (dj : Within j je m)
     (gc : natAbs (C *ℤ pos W -ℤ pos R *ℤ cn) ≤ W) (gs : natAbs (S *ℤ pos W -ℤ pos R *ℤ sn) ≤ W) (reach : 2 * (natAbs cn + natAbs sn) ≤ 3 * W) where
   ei : natAbs (i *ℤ pos (ie .den * je .den) -ℤ ie .num *ℤ pos (je .den)) ≤ m * (ie .den * je .den)
@@ -81,23 +81,23 @@ module _ (R W m : ℕ) (i j C S cn sn : ℤ) (ie je : Frac) (p : 0 < R) (di : Wi
   ej = subst (λ (z : ℕ). natAbs (j *ℤ pos z -ℤ je .num *ℤ pos (ie .den)) ≤ m * z) (mul-comm (je .den) (ie .den)) (widen j (je .num) (je .den) (ie .den) m dj)
 
   pub first-within : (I : ℤ) → 2 * natAbs ((C *ℤ i -ℤ S *ℤ j) -ℤ I *ℤ pos R) ≤ R →
-      Within I (difference (product (over cn W) ie) (product (over sn W) je)) (up-div (3 * m) 2 + up-div (natAbs i + natAbs j) R + 1)
+      Within I (difference (product (over cn W) ie) (product (over sn W) je)) (ceiling (3 * m) 2 + ceiling (natAbs i + natAbs j) R + 1)
   first-within I close =
-      subst₂ (λ (d : ℕ) (n : ℤ). natAbs (I *ℤ pos d -ℤ n) ≤ (up-div (3 * m) 2 + up-div (natAbs i + natAbs j) R + 1) * d)
+      subst₂ (λ (d : ℕ) (n : ℤ). natAbs (I *ℤ pos d -ℤ n) ≤ (ceiling (3 * m) 2 + ceiling (natAbs i + natAbs j) R + 1) * d)
       (den-is W (ie .den) (je .den)) (minus-is W (ie .den) (je .den) cn sn (ie .num) (je .num))
       (widen I (cn *ℤ (ie .num *ℤ pos (je .den)) -ℤ sn *ℤ (je .num *ℤ pos (ie .den))) (W * (ie .den * je .den)) W _
       (turn-near R W (ie .den * je .den) m i j (ie .num *ℤ pos (je .den)) (je .num *ℤ pos (ie .den)) C S cn sn I p ei ej gc gs reach close))
 
   pub second-within : (I : ℤ) → 2 * natAbs ((S *ℤ i +ℤ C *ℤ j) -ℤ I *ℤ pos R) ≤ R →
-      Within I (sum (product (over sn W) ie) (product (over cn W) je)) (up-div (3 * m) 2 + up-div (natAbs i + natAbs j) R + 1)
+      Within I (sum (product (over sn W) ie) (product (over cn W) je)) (ceiling (3 * m) 2 + ceiling (natAbs i + natAbs j) R + 1)
   second-within I close =
-      subst₂ (λ (d : ℕ) (n : ℤ). natAbs (I *ℤ pos d -ℤ n) ≤ (up-div (3 * m) 2 + up-div (natAbs i + natAbs j) R + 1) * d)
+      subst₂ (λ (d : ℕ) (n : ℤ). natAbs (I *ℤ pos d -ℤ n) ≤ (ceiling (3 * m) 2 + ceiling (natAbs i + natAbs j) R + 1) * d)
       (den-is W (ie .den) (je .den)) (plus-is W (ie .den) (je .den) cn sn (ie .num) (je .num))
       (widen I (sn *ℤ (ie .num *ℤ pos (je .den)) +ℤ cn *ℤ (je .num *ℤ pos (ie .den))) (W * (ie .den * je .den)) W _
       (turn-near-2 R W (ie .den * je .den) m i j (ie .num *ℤ pos (je .den)) (je .num *ℤ pos (ie .den)) C S cn sn I p ei ej gc gs reach close))
 
 -- a scale by f / F
-pub scale-within : (F r f e : ℕ) (x I : ℤ) (xe : Frac) → 0 < F → Within x xe r → natAbs (pos f *ℤ x -ℤ I *ℤ pos F) ≤ e * F → Within I (product (over (pos f) F) xe) (up-div (r * max f F) F + e)
+pub scale-within : (F r f e : ℕ) (x I : ℤ) (xe : Frac) → 0 < F → Within x xe r → natAbs (pos f *ℤ x -ℤ I *ℤ pos F) ≤ e * F → Within I (product (over (pos f) F) xe) (ceiling (r * max f F) F + e)
 scale-within F r f e x I xe p d c = scale-near F (xe .den) r f e x (xe .num) I p d c
 
 -- the steps that keep spreads
@@ -113,7 +113,7 @@ shift-within t o e m h = rw (shift-is t (e .num) o (e .den)) h
 mirror-is : (t num : ℤ) (d : ℕ) → negℤ t *ℤ pos d -ℤ negℤ num ≡ negℤ (t *ℤ pos d -ℤ num)
 mirror-is t num d = is-same (is-sub (is-by (is-neg (is t)) d) (is-neg (is num))) (is-neg (is-sub (is-by (is t) d) (is num))) (omega arith)
 
-pub mirror-within : (t : ℤ) (e : Frac) (m : ℕ) → Within t e m → Within (negℤ t) (mirrored e) m
+pub mirror-within : (t : ℤ) (e : Frac) (m : ℕ) → Within t e m → Within (negℤ t) (negated e) m
 mirror-within t e m h = le-trans (le-of-eq (ap natAbs (mirror-is t (e .num) (e .den)) ∙ abs-neg (t *ℤ pos (e .den) -ℤ e .num))) h
 
 -- a scale step: no more than the rounding, and nothing where there is no remainder
@@ -121,5 +121,17 @@ gap : (n I : ℤ) (F : ℕ) → 0 < F → Nearest n (pos F) I → (k : ℕ) → 
 gap n I F p h zero e = let z = exact-if n I F p e h in omega arith
 gap n I F p h (suc k) e = let c = h .close in omega arith
 
-pub scale-step : (r f : ℕ) (x I : ℤ) (xe : Frac) → Within x xe r → Nearest (pos f *ℤ x) (pos 100000) I → Within I (product (over (pos f) 100000) xe) (scaleSpread r f x)
+pub scale-step : (r f : ℕ) (x I : ℤ) (xe : Frac) → Within x xe r → Nearest (pos f *ℤ x) (pos 100000) I → Within I (product (over (pos f) 100000) xe) (ceiling (r * max f 100000) 100000 + one-if (natAbs (pos f *ℤ x) % 100000))
 scale-step r f x I xe d h = scale-within 100000 r f (one-if (natAbs (pos f *ℤ x) % 100000)) x I xe (omega arith) d (gap (pos f *ℤ x) I 100000 (omega arith) h (natAbs (pos f *ℤ x) % 100000) refl)
+
+-- a spread of 0 says that the two are one number
+pub equals-of : (t : ℤ) (e : Frac) (r : ℕ) → r ≡ 0 → Within t e r → Equals t e
+equals-of t e r z h = same (t *ℤ pos (e .den)) (e .num) (nothing (natAbs (t *ℤ pos (e .den) -ℤ e .num)) r (e .den) z h)
+  where
+    nothing : (a r d : ℕ) → r ≡ 0 → a ≤ r * d → a ≤ 0
+    nothing a r d z h = let m = ap (λ (k : ℕ). k * d) z in omega arith
+    same : (x y : ℤ) → natAbs (x -ℤ y) ≤ 0 → x ≡ y
+    same x y h = omega (arith, ints)
+
+pub wider : (t : ℤ) (e : Frac) (r s : ℕ) → r ≤ s → Within t e r → Within t e s
+wider t e r s h w = le-trans w (mul-le-mul-right (e .den) h)
