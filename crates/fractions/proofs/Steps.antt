@@ -130,6 +130,7 @@ equals-of t e r z h = same (t *ℤ pos (e .den)) (e .num) (nothing (natAbs (t *�
   where
     nothing : (a r d : ℕ) → r ≡ 0 → a ≤ r * d → a ≤ 0
     nothing a r d z h = let m = ap (λ (k : ℕ). k * d) z in omega arith
+
     same : (x y : ℤ) → natAbs (x -ℤ y) ≤ 0 → x ≡ y
     same x y h = omega (arith, ints)
 

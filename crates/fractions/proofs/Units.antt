@@ -53,13 +53,13 @@ module _ (W : ℕ) (σ τ i j : ℤ) (x y : Frac) (r s : ℕ) (dx : Within i x r
   pub unit-first : Within (σ *ℤ i -ℤ τ *ℤ j) (difference (product (over (σ *ℤ pos W) W) x) (product (over (τ *ℤ pos W) W) y)) (natAbs σ * r + natAbs τ * s)
   unit-first = both _ _ _ (natAbs σ * r) (natAbs τ * s) (W * x .den * (W * y .den))
       (le-trans (le-of-eq (ap natAbs (minus-by (σ *ℤ i) (τ *ℤ j) ((σ *ℤ pos W *ℤ x .num) *ℤ pos (W * y .den)) ((τ *ℤ pos W *ℤ y .num) *ℤ pos (W * x .den)) (W * x .den * (W * y .den)))))
-        (abs-sub ((σ *ℤ i) *ℤ pos (W * x .den * (W * y .den)) -ℤ (σ *ℤ pos W *ℤ x .num) *ℤ pos (W * y .den)) ((τ *ℤ j) *ℤ pos (W * x .den * (W * y .den)) -ℤ (τ *ℤ pos W *ℤ y .num) *ℤ pos (W * x .den))))
+      (abs-sub ((σ *ℤ i) *ℤ pos (W * x .den * (W * y .den)) -ℤ (σ *ℤ pos W *ℤ x .num) *ℤ pos (W * y .den)) ((τ *ℤ j) *ℤ pos (W * x .den * (W * y .den)) -ℤ (τ *ℤ pos W *ℤ y .num) *ℤ pos (W * x .den))))
       left-part right-part
 
   pub unit-second : Within (σ *ℤ i +ℤ τ *ℤ j) (sum (product (over (σ *ℤ pos W) W) x) (product (over (τ *ℤ pos W) W) y)) (natAbs σ * r + natAbs τ * s)
   unit-second = both _ _ _ (natAbs σ * r) (natAbs τ * s) (W * x .den * (W * y .den))
       (le-trans (le-of-eq (ap natAbs (plus-by (σ *ℤ i) (τ *ℤ j) ((σ *ℤ pos W *ℤ x .num) *ℤ pos (W * y .den)) ((τ *ℤ pos W *ℤ y .num) *ℤ pos (W * x .den)) (W * x .den * (W * y .den)))))
-        (abs-add ((σ *ℤ i) *ℤ pos (W * x .den * (W * y .den)) -ℤ (σ *ℤ pos W *ℤ x .num) *ℤ pos (W * y .den)) ((τ *ℤ j) *ℤ pos (W * x .den * (W * y .den)) -ℤ (τ *ℤ pos W *ℤ y .num) *ℤ pos (W * x .den))))
+      (abs-add ((σ *ℤ i) *ℤ pos (W * x .den * (W * y .den)) -ℤ (σ *ℤ pos W *ℤ x .num) *ℤ pos (W * y .den)) ((τ *ℤ j) *ℤ pos (W * x .den * (W * y .den)) -ℤ (τ *ℤ pos W *ℤ y .num) *ℤ pos (W * x .den))))
       left-part right-part
 
   pub unit-first-as : (t : ℤ) (k : ℕ) → σ *ℤ i -ℤ τ *ℤ j ≡ t → natAbs σ * r + natAbs τ * s ≡ k → Within t (difference (product (over (σ *ℤ pos W) W) x) (product (over (τ *ℤ pos W) W) y)) k
