@@ -1,0 +1,5 @@
+use Rattle.chains.proofs.Listed.{only-is}
+use Rattle.chains.proofs.chain.Chain.replace.Needs as need
+
+pub returns : need.returns
+returns c = only-is (c .args .self .now .steps) (c .args .step) (c .args .self .now .sized)

@@ -1,0 +1,4 @@
+pub mod Ring
+pub mod Turn
+pub mod Steps
+pub mod Units
