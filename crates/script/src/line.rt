@@ -35,7 +35,14 @@ impl<'a> Words<'a> {
         let uy = self.take_number()?;
         let z = self.take_number()?;
         let uz = self.take_number()?;
-        Some(Limits { lower: Point { x, y, z }, upper: Point { x: ux, y: uy, z: uz } })
+        Some(Limits {
+            lower: Point { x, y, z },
+            upper: Point {
+                x: ux,
+                y: uy,
+                z: uz,
+            },
+        })
     }
 
     fn take_side(&mut self) -> Option<Side> {
@@ -71,8 +78,12 @@ impl<'a> Words<'a> {
                 let side = self.take_side()?;
                 Some(Asked::Limit { level, axis, side })
             }
-            b"increment" => Some(Asked::Increment { axis: self.take_number()? }),
-            b"held" => Some(Asked::Held { axis: self.take_number()? }),
+            b"increment" => Some(Asked::Increment {
+                axis: self.take_number()?,
+            }),
+            b"held" => Some(Asked::Held {
+                axis: self.take_number()?,
+            }),
             b"move" => Some(Asked::Move(self.take_point()?)),
             _ => None,
         }
@@ -97,7 +108,9 @@ impl<'a> Words<'a> {
             b"area" => Some(Call::Area(self.take_limits()?)),
             b"move" => Some(Call::Move(self.take_point()?)),
             b"ask" => Some(Call::Ask(self.take_question()?)),
-            b"new" => Some(Call::New { tolerance: self.take_number()? }),
+            b"new" => Some(Call::New {
+                tolerance: self.take_number()?,
+            }),
             b"entry" => self.take_entry(),
             b"reset" => Some(Call::Reset),
             b"read" => Some(Call::Read),

@@ -36,7 +36,7 @@ declineOf (Outside p a l) = row 15 Machine p (axisNumber a) 0 l
 declineOf (RollFull s) = row 16 Call s 0 0 0
 declineOf Argument = row 17 Call 0 0 0 0
 
--- a fault of pushing or of the machine end, told at the place of a block's word
+-- a fault of the chain, of pushing or of the machine end, told at the place of a block's word
 abbrev pub atPlace : ℕ → Fault → Fault
 atPlace q TooLong = TooLong
 atPlace q (Byte p) = Byte p
@@ -47,9 +47,9 @@ atPlace q (Misplaced p) = Misplaced p
 atPlace q (Unfit p) = Unfit p
 atPlace q (Range p) = Range p
 atPlace q Ended = Ended
-atPlace q (ChainFull p) = ChainFull p
+atPlace q (ChainFull p) = ChainFull q
 atPlace q (IncrementalMachine p) = IncrementalMachine p
-atPlace q (Open p a) = Open p a
+atPlace q (Open p a) = Open q a
 atPlace q (Beyond p a s) = Beyond q a s
 atPlace q (Spread p a s) = Spread q a s
 atPlace q (Outside p a l) = Outside q a l

@@ -74,11 +74,13 @@ impl Fault {
         }
     }
 
-    /// A fault of pushing or of the machine end, told at the place of a block's word; any other stays.
+    /// A fault of the chain, of pushing or of the machine end, told at the place of a block's word; any other stays.
     pub fn at(self, place: usize) -> Fault
         ensures { λ r. ⌜ r ≡ atPlace place self ⌝ }
     {
         match self {
+            Fault::ChainFull { .. } => Fault::ChainFull { place },
+            Fault::Open { axis, .. } => Fault::Open { place, axis },
             Fault::Beyond { axis, step, .. } => Fault::Beyond { place, axis, step },
             Fault::Spread { axis, step, .. } => Fault::Spread { place, axis, step },
             Fault::Outside { axis, level, .. } => Fault::Outside { place, axis, level },

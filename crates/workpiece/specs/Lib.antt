@@ -1,0 +1,4 @@
+pub mod Force
+pub mod Modes
+pub mod Places
+pub mod Settable
