@@ -1,0 +1,3 @@
+pub mod gathered;
+pub mod measures;
+pub mod types;
