@@ -1,0 +1,4 @@
+pub mod Pushing
+pub mod Prepared
+pub mod Exact
+pub mod Theorems

@@ -1,0 +1,142 @@
+// Pushing a point: each step, the tests after it, and the whole chain.
+ghost use mathlib.Core.Path.{_≡_};
+ghost use mathlib.Core.Bool.{Bool, true, false, cond};
+ghost use mathlib.Core.List.{List, [], _∷_};
+ghost use Prim.Native.Nat.{ℕ, _+_, _<_, _≤_};
+ghost use lib.IntN.{ℤ, natAbs};
+ghost use lib.ListN.{length, getD, take};
+ghost use Rattle.std.specs.Vec.{made};
+ghost use Rattle.chains.specs.Chains.{stepsOf};
+ghost use Rattle.frames.specs.Pushing.{axisAt, through, firstAxis, tooFar, tooWide, isBeyond, isWide, tested as passed, pushed, settable, started, Bounded};
+ghost use Rattle.frames.specs.Theorems.{Sound};
+use crate::image::Image;
+use crate::step::stepped;
+use chains::chain::Chain;
+use chains::step::Step;
+use units::axis::Axis;
+use units::fault::Fault;
+use units::quantity::Length;
+use units::quantity::Tolerance;
+
+/// How far a coordinate may lie from 0.
+const FAR: u64 = 2_000_000_000;
+
+/// The step told with the settable offset.
+const SETTABLE: u8 = 9;
+
+fn axis_of(a: usize) -> Axis
+    ensures { λ r. ⌜ r ≡ axisAt a ⌝ }
+{
+    match a {
+        0 => Axis::X,
+        1 => Axis::Y,
+        _ => Axis::Z,
+    }
+}
+
+fn too_far(moved: bool, x: i64) -> bool
+    ensures { λ r. ⌜ r ≡ tooFar moved x ⌝ }
+{
+    moved && x.unsigned_abs() > FAR
+}
+
+fn too_wide(tolerance: Tolerance, moved: bool, r: u64) -> bool
+    ensures { λ result. ⌜ result ≡ tooWide (tolerance .units) moved r ⌝ }
+{
+    moved && r > tolerance.units
+}
+
+fn first_beyond(moved: [bool; 3], p: Image) -> Option<Axis>
+    ensures { λ r. ⌜ r ≡ firstAxis (isBeyond moved p) ⌝ }
+{
+    for a in 0..3 {
+        if too_far(moved[a], p.at[a]) {
+            return Some(axis_of(a));
+        }
+    }
+    None
+}
+
+fn first_wide(moved: [bool; 3], tolerance: Tolerance, p: Image) -> Option<Axis>
+    ensures { λ r. ⌜ r ≡ firstAxis (isWide moved (tolerance .units) p) ⌝ }
+{
+    for a in 0..3 {
+        if too_wide(tolerance, moved[a], p.spread[a]) {
+            return Some(axis_of(a));
+        }
+    }
+    None
+}
+
+/// 13 over the axes, then 14, each in axis order.
+fn tested(step: u8, moved: [bool; 3], tolerance: Tolerance, p: Image) -> Result<Image, Fault>
+    ensures { λ r. ⌜ r ≡ passed step moved (tolerance .units) p ⌝ }
+{
+    if let Some(axis) = first_beyond(moved, p) {
+        return Err(Fault::Beyond {
+            place: 0,
+            axis,
+            step,
+        });
+    }
+    if let Some(axis) = first_wide(moved, tolerance, p) {
+        return Err(Fault::Spread {
+            place: 0,
+            axis,
+            step,
+        });
+    }
+    Ok(p)
+}
+
+/// One step and the tests after it.
+fn step_on(
+    number: u8,
+    moved: [bool; 3],
+    tolerance: Tolerance,
+    step: Step,
+    p: Image,
+) -> Result<Image, Fault>
+    requires { ⌜ Bounded p ⌝ }
+    ensures { λ r. ⌜ r ≡ passed number moved (tolerance .units) (through moved step p) ⌝ }
+{
+    tested(number, moved, tolerance, stepped(moved, step, p))
+}
+
+/// The settable offset as a step that names all three axes.
+fn settable_step(offset: [Length; 3]) -> Step
+    ensures { λ r. ⌜ r ≡ settable offset ⌝ }
+{
+    Step::Offset([Some(offset[0]), Some(offset[1]), Some(offset[2])])
+}
+
+fn start(values: [Length; 3]) -> Image
+    ensures { λ r. ⌜ r ≡ started values ⌝ }
+{
+    Image {
+        at: [values[0].units, values[1].units, values[2].units],
+        spread: [0; 3],
+    }
+}
+
+/// The workpiece values through the chain, from the innermost step to step 1, and then by the settable offset (all 0
+/// where no settable frame is selected). An axis that is not moved is neither pushed nor tested.
+pub fn push(
+    chain: &Chain,
+    moved: [bool; 3],
+    values: [Length; 3],
+    offset: [Length; 3],
+    tolerance: Tolerance,
+) -> Result<Image, Fault>
+    ensures told { λ r. ⌜ r ≡ pushed (stepsOf (now (chain .entry))) moved (tolerance .units) offset values ⌝ }
+    ensures sound { λ r. ⌜ made r (Sound (stepsOf (now (chain .entry))) moved offset values) ⌝ }
+{
+    let mut p = start(values);
+    for i in (0..chain.count).rev() {
+        match step_on(i as u8 + 1, moved, tolerance, chain.steps[i], p) {
+            Ok(q) => p = q,
+            Err(fault) => return Err(fault),
+        }
+    }
+    step_on(SETTABLE, moved, tolerance, settable_step(offset), p)
+}
