@@ -2,3 +2,4 @@ pub mod Joins
 pub mod Ranges
 pub mod Nearness
 pub mod Taken
+pub mod Counts
