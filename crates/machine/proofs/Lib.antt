@@ -3,3 +3,6 @@ pub mod Ranges
 pub mod Nearness
 pub mod Taken
 pub mod Counts
+pub mod Relations
+pub mod Roundings
+pub mod Visits

@@ -6,3 +6,5 @@ pub mod Joined
 pub mod Area
 pub mod Scale
 pub mod Count
+pub mod Standing
+pub mod Visits

@@ -8,3 +8,5 @@ pub mod increment;
 pub mod joined;
 pub mod motors;
 pub mod scale;
+pub mod standing;
+pub mod visit;
