@@ -2,8 +2,7 @@
 ghost use mathlib.Core.Path.{_≡_};
 ghost use denote.Ref.{now};
 ghost use Rattle.machine.specs.Meaning.{Meaning, Sound};
-ghost use Rattle.machine.specs.Replies.{replyTo, afterMove, axisOf, boxCount, limitTold, incrementTold, heldTold};
-use units::axis::Axis;
+ghost use Rattle.machine.specs.Replies.{replyTo, afterMove, boxCount, limitTold, incrementTold, heldTold};
 use units::axis::Point;
 use units::axis::Side;
 use units::fault::Fault;
@@ -37,16 +36,4 @@ pub trait MachineEnd {
     /// The coordinate held.
     fn held(&self, axis: u8) -> Result<i64, Fault>
         ensures { λ r. ⌜ r ≡ heldTold (meaning (now (self .entry))) axis ⌝ };
-}
-
-/// The axis of a number.
-pub fn axis_of(number: u8) -> Result<Axis, Fault>
-    ensures { λ r. ⌜ r ≡ axisOf number ⌝ }
-{
-    match number {
-        1 => Ok(Axis::X),
-        2 => Ok(Axis::Y),
-        3 => Ok(Axis::Z),
-        _ => Err(Fault::Argument),
-    }
 }

@@ -1,9 +1,9 @@
 // A work area over an end is again an end.
 ghost use Rattle.machine.specs.Meaning.{topped};
 use crate::area::WorkArea;
-use crate::bounds::make::coordinate;
+use crate::axes::axis_of;
+use crate::axes::coordinate;
 use crate::end::MachineEnd;
-use crate::end::axis_of;
 use crate::joined::on_top;
 use units::axis::Point;
 use units::axis::Side;

@@ -1,15 +1,15 @@
 // Making a box, and what it says to a move.
 ghost use mathlib.Core.Path.{_≡_};
-ghost use mathlib.Core.Bool.{true, false, _&&_};
+ghost use mathlib.Core.Bool.{_&&_};
 ghost use mathlib.Core.List.{[], _∷_};
 ghost use Prim.Native.Nat.{ℕ};
 ghost use lib.Dec.{leb};
 ghost use lib.IntN.{natAbs};
-ghost use Rattle.std.specs.declared.result.Result.the-variants.{Ok, Err};
-ghost use Rattle.units.specs.declared.fault.Fault.the-variants.{Argument};
-ghost use Rattle.machine.specs.Ranges.{within, increment-fits};
-ghost use Rattle.machine.specs.Meaning.{at, limits};
+ghost use Rattle.machine.specs.Made.{MadeWhere};
+ghost use Rattle.machine.specs.Ranges.{within};
+ghost use Rattle.machine.specs.Meaning.{limits};
 ghost use Rattle.machine.specs.Replies.{beyond, reply};
+use crate::axes::coordinate;
 use crate::bounds::Bounds;
 use units::axis::Axis;
 use units::axis::Point;
@@ -17,8 +17,6 @@ use units::axis::Side;
 use units::fault::Fault;
 
 const REACH: u64 = 2_000_000_000;
-
-const LONGEST: u32 = 100_000;
 
 fn reached(v: i64) -> bool
     ensures { λ r. ⌜ r ≡ leb (natAbs v) 2000000000 ⌝ }
@@ -33,28 +31,10 @@ fn in_reach(p: Point) -> bool
     reached(p.x) && reached(p.y) && reached(p.z)
 }
 
-/// Whether an increment is 1 to 100,000 units.
-pub fn fair_increment(increment: u32) -> bool
-    ensures { λ r. ⌜ r ≡ increment-fits increment ⌝ }
-{
-    1 <= increment && increment <= LONGEST
-}
-
-/// A point's coordinate on an axis.
-pub fn coordinate(p: Point, axis: Axis) -> i64
-    ensures { λ r. ⌜ r ≡ at p axis ⌝ }
-{
-    match axis {
-        Axis::X => p.x,
-        Axis::Y => p.y,
-        Axis::Z => p.z,
-    }
-}
-
 impl Bounds {
     /// `Fault::Argument` where a limit is more than 2,000,000,000 units either way.
     pub fn new(lower: Point, upper: Point) -> Result<Bounds, Fault>
-        ensures { λ r. ⌜ elim r [ Ok b ↦ ((within 2000000000 lower && within 2000000000 upper) ≡ true) × (b .lower ≡ lower) × (b .upper ≡ upper) | Err f ↦ ((within 2000000000 lower && within 2000000000 upper) ≡ false) × (f ≡ Argument) ] ⌝ }
+        ensures { λ r. ⌜ MadeWhere (within 2000000000 lower && within 2000000000 upper) (λ b. (b .lower ≡ lower) × (b .upper ≡ upper)) r ⌝ }
     {
         if !in_reach(lower) {
             return Err(Fault::Argument);

@@ -1,18 +1,17 @@
 // Making a scale end, and its moves.
 ghost use mathlib.Core.Path.{_≡_};
-ghost use mathlib.Core.Bool.{true, false};
+ghost use mathlib.Core.Bool.{true};
 ghost use Prim.Native.Nat.{ℕ, _≤_};
 ghost use lib.IntN.{natAbs};
-ghost use Rattle.std.specs.declared.result.Result.the-variants.{Ok, Err};
-ghost use Rattle.units.specs.declared.fault.Fault.the-variants.{Argument};
+ghost use Rattle.machine.specs.Made.{MadeWhere};
 ghost use Rattle.machine.specs.Ranges.{within, increment-fits};
 ghost use Rattle.machine.specs.Meaning.{each, origin};
 ghost use Rattle.machine.specs.Scale.{nearestMultiple, scaleMeaning};
+use crate::axes::axis_of;
+use crate::axes::coordinate;
 use crate::bounds::Bounds;
-use crate::bounds::make::coordinate;
-use crate::bounds::make::fair_increment;
 use crate::end::MachineEnd;
-use crate::end::axis_of;
+use crate::increment::fair_increment;
 use crate::scale::ScaleEnd;
 use units::axis::Point;
 use units::axis::Side;
@@ -24,7 +23,7 @@ use units::quantity::Divisor;
 impl ScaleEnd {
     /// At 0, 0, 0; `Fault::Argument` where the increment is not 1 to 100,000.
     pub fn new(increment: u32, bounds: Bounds) -> Result<ScaleEnd, Fault>
-        ensures { λ r. ⌜ elim r [ Ok e ↦ (increment-fits increment ≡ true) × (scaleMeaning (e .increment) (e .bounds) (e .position) ≡ scaleMeaning increment bounds origin) | Err f ↦ (increment-fits increment ≡ false) × (f ≡ Argument) ] ⌝ }
+        ensures { λ r. ⌜ MadeWhere (increment-fits increment) (λ e. scaleMeaning (e .increment) (e .bounds) (e .position) ≡ scaleMeaning increment bounds origin) r ⌝ }
     {
         if !fair_increment(increment) {
             return Err(Fault::Argument);

@@ -1,6 +1,6 @@
 use borrow.Author.Needs.{needs}
 use Rattle.machine.specs.Ranges.{increment-fits}
-use Rattle.machine.proofs.bounds.make.fair_increment.Needs as need
+use Rattle.machine.proofs.increment.fair_increment.Needs as need
 
 pub returns-then-increment-ge1 : need.returns-then-increment-ge1
 unfolding increment-fits
