@@ -1,4 +1,10 @@
+pub mod Changes
+pub mod Entries
 pub mod Force
 pub mod Modes
+pub mod Moves
 pub mod Places
+pub mod Plans
+pub mod Selects
 pub mod Settable
+pub mod Setup

@@ -1,7 +1,7 @@
 // What is in force of frames, and the guard that sets it aside for G53.
 ghost use mathlib.Core.Path.{_≡_};
 ghost use denote.Ref.{name};
-ghost use Rattle.workpiece.specs.Force.{machineOnly, startForce};
+ghost use Rattle.workpiece.specs.Force.{machineOnly, startForce, selectedForce};
 use reader::functions::Settable;
 
 /// Which settable frame is in force, and whether the chain is.
@@ -19,6 +19,16 @@ impl InForce {
         InForce {
             settable: Settable::G500,
             chained: true,
+        }
+    }
+
+    /// What is in force after a block's selection of a settable frame.
+    pub fn selected(self, settable: Option<Settable>) -> InForce
+        ensures { λ r. ⌜ r ≡ selectedForce settable self ⌝ }
+    {
+        InForce {
+            settable: settable.unwrap_or(self.settable),
+            chained: self.chained,
         }
     }
 }

@@ -2,4 +2,6 @@
 pub mod force;
 pub mod modes;
 pub mod places;
+pub mod plan;
 pub mod settable;
+pub mod setup;

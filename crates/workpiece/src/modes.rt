@@ -1,6 +1,7 @@
 // The modal G functions in force.
 ghost use mathlib.Core.Path.{_≡_};
-ghost use Rattle.workpiece.specs.Modes.{startModes, isInch, isIncremental};
+ghost use Rattle.workpiece.specs.Modes.{startModes, selectedModes, isInch, isIncremental};
+use blocks::types::Selections;
 use reader::functions::Distance;
 use reader::functions::LengthUnit;
 use reader::functions::Motion;
@@ -25,6 +26,18 @@ impl Modes {
             plane: Plane::Xy,
             unit: LengthUnit::Millimetre,
             distance: Distance::Absolute,
+        }
+    }
+
+    /// The functions in force after a block's selections.
+    pub fn selected(self, by: Selections) -> Modes
+        ensures { λ r. ⌜ r ≡ selectedModes by self ⌝ }
+    {
+        Modes {
+            motion: by.motion.unwrap_or(self.motion),
+            plane: by.plane.unwrap_or(self.plane),
+            unit: by.unit.unwrap_or(self.unit),
+            distance: by.distance.unwrap_or(self.distance),
         }
     }
 }
