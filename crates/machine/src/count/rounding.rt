@@ -4,7 +4,7 @@ ghost use mathlib.Core.Bool.{true};
 ghost use Prim.Native.Nat.{ℕ, _+_, _-_, _*_, _/_, _≤_};
 ghost use lib.IntN.{ℤ, natAbs};
 ghost use Rattle.machine.specs.Ranges.{within, increment-fits};
-ghost use Rattle.machine.specs.Count.{increments-fit, lowerCount, lowerCounts, countOn, standing as standingOf};
+ghost use Rattle.machine.specs.Count.{increments-fit, lowerCount, lowerCounts, countOn, standing as standingOf, standingAt};
 use crate::motors::Counts;
 use crate::motors::Increments;
 use units::axis::Axis;
@@ -38,7 +38,8 @@ fn lower_count(length: u32, v: i64) -> i64
 pub(crate) fn lower_counts(increments: Increments, to: Point) -> Counts
     requires sized { ⌜ increments-fit increments ≡ true ⌝ }
     requires placed { ⌜ within 2000000000 to ≡ true ⌝ }
-    ensures { λ r. ⌜ r ≡ lowerCounts increments to ⌝ }
+    ensures value { λ r. ⌜ r ≡ lowerCounts increments to ⌝ }
+    ensures bound { λ r. ⌜ within 2000050000 (standingAt increments r) ≡ true ⌝ }
 {
     Counts {
         x: lower_count(increments.x, to.x),
