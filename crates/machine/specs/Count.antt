@@ -27,9 +27,13 @@ countOn k Z = k .z
 unfoldable pub increments-fit : Increments → Bool
 increments-fit i = increment-fits (i .x) && (increment-fits (i .y) && increment-fits (i .z))
 
+-- the count nearest to a distance from 0; a tie goes towards 0
+abbrev pub tieDown : ℕ → ℕ → ℕ
+tieDown d n = (2 * n + (d - 1)) / (2 * d)
+
 -- the count nearest to a coordinate; of two equally near the lower one, which below zero is the one further from 0
 abbrev pub lowerCount : ℕ → ℤ → ℤ
-lowerCount d (pos n) = pos ((2 * n + (d - 1)) / (2 * d))
+lowerCount d (pos n) = pos (tieDown d n)
 lowerCount d (negsuc n) = nearest (negsuc n) d
 
 abbrev pub lowerCounts : Increments → Point → Counts

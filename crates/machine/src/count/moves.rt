@@ -38,8 +38,9 @@ pub impl MachineEnd for CountEnd as CountMachineEnd {
     ghost meaning = { λ e. countMeaning (e .increments) (e .bounds) (e .counts) };
 
     fn take_move(&mut self, to: Point) -> Result<(), Fault> {
-        self.bounds.admit(to)?;
-        self.counts = lower_counts(self.increments, to);
+        self.ask_move(to)?;
+        let counts = lower_counts(self.increments, to);
+        self.counts = counts;
         Ok(())
     }
 

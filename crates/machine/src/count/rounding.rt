@@ -1,10 +1,10 @@
 // Coordinates to counts and back.
 ghost use mathlib.Core.Path.{_≡_};
 ghost use mathlib.Core.Bool.{true};
-ghost use Prim.Native.Nat.{ℕ, _+_, _-_, _*_, _/_, _≤_};
+ghost use Prim.Native.Nat.{ℕ, _≤_};
 ghost use lib.IntN.{ℤ, natAbs};
 ghost use Rattle.machine.specs.Ranges.{within, increment-fits};
-ghost use Rattle.machine.specs.Count.{increments-fit, lowerCount, lowerCounts, countOn, standing as standingOf};
+ghost use Rattle.machine.specs.Count.{increments-fit, tieDown, lowerCount, lowerCounts, countOn, standing as standingOf, standingAt};
 use crate::motors::Counts;
 use crate::motors::Increments;
 use units::axis::Axis;
@@ -17,7 +17,7 @@ use units::quantity::Divisor;
 fn tie_down(length: u64, n: u64) -> u64
     requires size { ⌜ (1 ≤ length) × (length ≤ 100000) ⌝ }
     requires small { ⌜ n ≤ 2000000000 ⌝ }
-    ensures value { λ r. ⌜ r ≡ (2 * n + (length - 1)) / (2 * length) ⌝ }
+    ensures value { λ r. ⌜ r ≡ tieDown length n ⌝ }
     ensures few { λ r. ⌜ r ≤ 4000100000 ⌝ }
 {
     (2 * n + (length - 1)) / (2 * length)
@@ -38,7 +38,8 @@ fn lower_count(length: u32, v: i64) -> i64
 pub(crate) fn lower_counts(increments: Increments, to: Point) -> Counts
     requires sized { ⌜ increments-fit increments ≡ true ⌝ }
     requires placed { ⌜ within 2000000000 to ≡ true ⌝ }
-    ensures { λ r. ⌜ r ≡ lowerCounts increments to ⌝ }
+    ensures value { λ r. ⌜ r ≡ lowerCounts increments to ⌝ }
+    ensures bound { λ r. ⌜ within 2000050000 (standingAt increments r) ≡ true ⌝ }
 {
     Counts {
         x: lower_count(increments.x, to.x),

@@ -46,7 +46,8 @@ fn multiple(increment: u32, v: i64) -> i64
 fn multiples(increment: u32, to: Point) -> Point
     requires sized { ⌜ increment-fits increment ≡ true ⌝ }
     requires placed { ⌜ within 2000000000 to ≡ true ⌝ }
-    ensures { λ r. ⌜ r ≡ each (λ a. nearestMultiple increment) to ⌝ }
+    ensures value { λ r. ⌜ r ≡ each (λ a. nearestMultiple increment) to ⌝ }
+    ensures bound { λ r. ⌜ within 2000050000 r ≡ true ⌝ }
 {
     Point {
         x: multiple(increment, to.x),
@@ -59,8 +60,9 @@ pub impl MachineEnd for ScaleEnd as ScaleMachineEnd {
     ghost meaning = { λ e. scaleMeaning (e .increment) (e .bounds) (e .position) };
 
     fn take_move(&mut self, to: Point) -> Result<(), Fault> {
-        self.bounds.admit(to)?;
-        self.position = multiples(self.increment, to);
+        self.ask_move(to)?;
+        let position = multiples(self.increment, to);
+        self.position = position;
         Ok(())
     }
 

@@ -5,8 +5,9 @@ use Rattle.machine.proofs.count.rounding.lower_count.Needs as need
 
 pub ghost-div-nearest-then-v-lt0 : need.ghost-div-nearest-then-v-lt0
 ghost-div-nearest-then-v-lt0 c =
+    let least = increment-least _ (c .pre .size) in
     let most = increment-most _ (c .pre .size) in
-    (increment-least _ (c .pre .size), (omega arith, tt))
+    (omega arith, (omega arith, tt))
 
 pub tie-down-requires : need.tie-down-requires
 tie-down-requires c κs =

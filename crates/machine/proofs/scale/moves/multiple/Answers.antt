@@ -4,5 +4,6 @@ use Rattle.machine.proofs.scale.moves.multiple.Needs as need
 
 pub ghost-div-nearest-2 : need.ghost-div-nearest-2
 ghost-div-nearest-2 c =
+    let least = increment-least _ (c .pre .0) in
     let most = increment-most _ (c .pre .0) in
-    (increment-least _ (c .pre .0), (omega arith, tt))
+    (omega arith, (omega arith, tt))

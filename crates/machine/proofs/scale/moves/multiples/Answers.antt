@@ -1,7 +1,9 @@
+use borrow.Author.Needs.{needs}
 use native.Mathlib.Omega.{arith}
 use Rattle.std.proofs.shelf.Signed.{ints}
 use Rattle.units.specs.declared.axis.Axis.the-variants.{X, Y, Z}
 use Rattle.machine.proofs.Ranges.{on-axis}
+use Rattle.machine.proofs.Nearness.{multiples-within}
 use Rattle.machine.proofs.scale.moves.multiples.Needs as need
 
 pub multiple-requires : need.multiple-requires
@@ -12,3 +14,6 @@ multiple-requires-2 c κs = let w = on-axis _ (c .args .to) (c .pre .placed) Y i
 
 pub multiple-requires-3 : need.multiple-requires-3
 multiple-requires-3 c κs = let w = on-axis _ (c .args .to) (c .pre .placed) Z in (c .pre .sized, omega (arith, ints))
+
+pub returns : need.returns
+returns c = record { value = search needs; bound = multiples-within _ _ _ (c .pre .sized) (c .pre .placed) (search needs) }

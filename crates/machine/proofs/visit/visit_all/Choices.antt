@@ -1,7 +1,7 @@
 use Prim.Native.Nat.{_-_}
 use lib.ListN.{length}
 use Rattle.machine.proofs.Visits.{Going}
-use Rattle.machine.proofs.visit.make.visit.Given as given
+use Rattle.machine.proofs.visit.visit_all.Given as given
 
 abbrev pub Inv-loop-taken : given.InvT-loop-taken
 Inv-loop-taken g l = Going (g .E·MachineEnd .meaning (l .entry .end)) (l .points) (l .taken) (g .E·MachineEnd .meaning (l .end))

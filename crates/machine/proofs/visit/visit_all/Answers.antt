@@ -1,5 +1,5 @@
 use Rattle.machine.proofs.Visits.{go-on, stop}
-use Rattle.machine.proofs.visit.make.visit.Needs as need
+use Rattle.machine.proofs.visit.visit_all.Needs as need
 
 pub loop-taken-again : need.loop-taken-again
 loop-taken-again g c =
