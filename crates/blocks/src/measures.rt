@@ -11,8 +11,11 @@ use units::quantity::Length;
 
 // How many decimals are counted.
 const MILLIMETRE_DECIMALS: usize = 5;
+
 const INCH_DECIMALS: usize = 4;
+
 const FACTOR_DECIMALS: usize = 5;
+
 const ANGLE_DECIMALS: usize = 4;
 /// Units in a ten-thousandth of an inch.
 const INCH_UNITS: i64 = 254;

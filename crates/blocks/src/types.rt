@@ -50,7 +50,14 @@ pub struct Ordinary {
 /// A right block; the place of a frame or limit instruction is that of its name or G word.
 #[derive(Clone, Copy)]
 pub enum Block {
-    Frame { change: FrameChange, place: usize },
-    Limit { side: Side, values: [Option<Length>; 3], place: usize },
+    Frame {
+        change: FrameChange,
+        place: usize,
+    },
+    Limit {
+        side: Side,
+        values: [Option<Length>; 3],
+        place: usize,
+    },
     Ordinary(Ordinary),
 }
