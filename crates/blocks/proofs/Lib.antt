@@ -1,1 +1,6 @@
 pub mod Measured
+pub mod Held
+pub mod Settled
+pub mod Turns
+pub mod Judged
+pub mod Concluded
