@@ -6,3 +6,5 @@ pub mod Turning
 pub mod Images
 pub mod Growth
 pub mod Whole
+pub mod Giving
+pub mod Worked
