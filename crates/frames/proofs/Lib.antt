@@ -8,3 +8,4 @@ pub mod Growth
 pub mod Whole
 pub mod Giving
 pub mod Worked
+pub mod Limits
