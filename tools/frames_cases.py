@@ -224,3 +224,12 @@ print(f"pub const COUNT: usize = {len(ROWS)};\n")
 print("pub static CASES: [Case; COUNT] = [")
 print("\n".join(ROWS))
 print("];")
+
+TICKS = [0, 1, 2, 99_999, 150_000, 300_000, 449_999, 450_000, 450_001, 600_000, 899_999]
+TICKS = sorted(t + 900_000 * q for t in TICKS for q in range(4))
+print(f"\npub const NUMBER_COUNT: usize = {len(TICKS)};\n")
+print("// Ticks, cosine and sine: the whole numbers nearest to 10^9 times their references.")
+print("pub static NUMBERS: [[i64; 3]; NUMBER_COUNT] = [")
+for t in TICKS:
+    print("    [%d, %d, %d]," % ((t,) + numbers(t)))
+print("];")
