@@ -6,3 +6,6 @@ pub mod Turning
 pub mod Images
 pub mod Growth
 pub mod Whole
+pub mod Giving
+pub mod Worked
+pub mod Limits

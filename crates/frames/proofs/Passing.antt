@@ -70,7 +70,7 @@ through-spread m s p (suc (suc zero)) h = refl
 through-spread m s p (suc (suc (suc a))) h = absurd (omega arith)
 
 -- a moved axis has passed the test, another is as it was
-ltb-no : (a b : ℕ) → ltb a b ≡ false → b ≤ a
+pub ltb-no : (a b : ℕ) → ltb a b ≡ false → b ≤ a
 ltb-no a b e = omega (arith, ltb-false)
 
 far-by : (b : Bool) (x y : ℤ) (z : ℤ) → z ≡ cond b x y → tooFar b z ≡ false → natAbs y ≤ 2000000000 → natAbs z ≤ 2000000000

@@ -2,3 +2,5 @@ pub mod Pushing
 pub mod Prepared
 pub mod Exact
 pub mod Theorems
+pub mod Laws
+pub mod Examples

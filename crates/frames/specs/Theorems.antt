@@ -14,7 +14,7 @@ use Rattle.chains.specs.declared.step.Step.{Step}
 use Rattle.chains.specs.declared.step.Step.the-variants.{Offset, Scale, Mirror, Turn}
 use Rattle.chains.specs.Joined.{AllJoined}
 use Rattle.frames.specs.declared.image.Image.{Image}
-use Rattle.frames.specs.Pushing.{coordinate, spreadOf, quartered, carried, started}
+use Rattle.frames.specs.Pushing.{coordinate, spreadOf, quartered, carried, started, lengthAt}
 use Rattle.frames.specs.Exact.{Exact, exactImage}
 
 -- each moved axis is within its spread of its exact image
@@ -77,3 +77,9 @@ pub record Sound (ss : List Step) (m : List Bool) (offset values : List Length) 
   -- a chain with no scale and no odd turn is exact
   pub rigid : weightOf ss ≡ 0 → (a : ℕ) → a < 3 → spreadOf p a ≡ 0
   pub exact : weightOf ss ≡ 0 → AllJoined m ss → (a : ℕ) → a < 3 → getD m a false ≡ true → Equals (coordinate p a) (exactImage ss offset values a)
+
+-- the range of what is accepted, and the axes that are not moved
+pub record Limited (m : List Bool) (tolerance : ℕ) (values : List Length) (p : Image) : Type 0 where
+  pub ranged : (a : ℕ) → a < 3 → natAbs (coordinate p a) ≤ 2000000000
+  pub tolerated : (a : ℕ) → a < 3 → spreadOf p a ≤ tolerance
+  pub unmoved : (a : ℕ) → a < 3 → getD m a false ≡ false → (coordinate p a ≡ lengthAt values a .units) × (spreadOf p a ≡ 0)

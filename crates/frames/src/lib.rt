@@ -3,4 +3,5 @@ pub mod image;
 pub mod push;
 mod round;
 mod step;
+pub mod theorems;
 mod turn;

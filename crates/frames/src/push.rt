@@ -8,7 +8,7 @@ ghost use lib.ListN.{length, getD, take};
 ghost use Rattle.std.specs.Vec.{made};
 ghost use Rattle.chains.specs.Chains.{stepsOf};
 ghost use Rattle.frames.specs.Pushing.{axisAt, through, firstAxis, tooFar, tooWide, isBeyond, isWide, tested as passed, pushed, settable, started, Bounded};
-ghost use Rattle.frames.specs.Theorems.{Sound};
+ghost use Rattle.frames.specs.Theorems.{Sound, Limited};
 use crate::image::Image;
 use crate::step::stepped;
 use chains::chain::Chain;
@@ -130,6 +130,7 @@ pub fn push(
 ) -> Result<Image, Fault>
     ensures told { λ r. ⌜ r ≡ pushed (stepsOf (now (chain .entry))) moved (tolerance .units) offset values ⌝ }
     ensures sound { λ r. ⌜ made r (Sound (stepsOf (now (chain .entry))) moved offset values) ⌝ }
+    ensures limited { λ r. ⌜ made r (Limited moved (tolerance .units) values) ⌝ }
 {
     let mut p = start(values);
     for i in (0..chain.count).rev() {

@@ -4,6 +4,7 @@ use borrow.Author.Needs.{needs}
 use lib.ListN.{length}
 use Rattle.chains.specs.Chains.{stepsOf}
 use Rattle.frames.proofs.Passing.{push-start, push-next, loop-bounded, loop-refused, loop-ended}
+use Rattle.frames.proofs.Limits.{pushed-limited}
 use Rattle.frames.proofs.Whole.{pushed-sound}
 use Rattle.frames.proofs.push.push.Needs as need
 
@@ -25,7 +26,7 @@ loop-i-again c =
 pub returns-in-Err : need.returns-in-Err
 returns-in-Err c =
     let h : c .args .chain .now .count ≤ length (c .args .chain .now .steps) = search needs in
-    record { told = loop-refused (c .args .chain .now .steps) (c .args .chain .now .count) (c .args .moved) (c .args .tolerance .units) (c .args .offset) (c .args .values) (c .start-p .result) h (c .start-p .ensures) (c .loop-i .i) (c .loop-i .p) _ (c .in-Err .fault) (c .loop-i-test .taken) (c .loop-i .kept .i) (c .loop-i .inv) (c .in-Err .ensures tt); sound = tt }
+    record { told = loop-refused (c .args .chain .now .steps) (c .args .chain .now .count) (c .args .moved) (c .args .tolerance .units) (c .args .offset) (c .args .values) (c .start-p .result) h (c .start-p .ensures) (c .loop-i .i) (c .loop-i .p) _ (c .in-Err .fault) (c .loop-i-test .taken) (c .loop-i .kept .i) (c .loop-i .inv) (c .in-Err .ensures tt); sound = tt; limited = tt }
 
 pub step-on-requires-2 : need.step-on-requires-2
 step-on-requires-2 c κs =
@@ -36,4 +37,4 @@ pub returns : need.returns
 returns c =
     let h : c .args .chain .now .count ≤ length (c .args .chain .now .steps) = search needs in
     let e = loop-ended (c .args .chain .now .steps) (c .args .chain .now .count) (c .args .moved) (c .args .tolerance .units) (c .args .offset) (c .args .values) (c .start-p .result) h (c .start-p .ensures) (c .loop-i .i) (c .loop-i .p) (c .settable-step .result) (c .step-on-2 .result) (c .loop-i-test .left) (c .loop-i .inv) (c .settable-step .ensures) (c .step-on-2 .ensures) in
-    record { told = e; sound = pushed-sound (stepsOf (c .args .chain .now)) (c .args .moved) (c .args .tolerance .units) (c .args .offset) (c .args .values) (c .step-on-2 .result) e }
+    record { told = e; sound = pushed-sound (stepsOf (c .args .chain .now)) (c .args .moved) (c .args .tolerance .units) (c .args .offset) (c .args .values) (c .step-on-2 .result) e; limited = pushed-limited (stepsOf (c .args .chain .now)) (c .args .moved) (c .args .tolerance .units) (c .args .offset) (c .args .values) (c .step-on-2 .result) e }
