@@ -1,0 +1,6 @@
+//! Examples for the machine ends.
+pub mod deep;
+pub mod pile;
+
+#[cfg(test)]
+mod tests;
