@@ -78,7 +78,12 @@ struct Rounded {
 }
 
 fn row(increment: u32, to: i64, scale: i64, count: i64) -> Rounded {
-    Rounded { increment, to, scale, count }
+    Rounded {
+        increment,
+        to,
+        scale,
+        count,
+    }
 }
 
 #[test]
@@ -107,7 +112,11 @@ fn roundings() -> Result<(), Fail> {
         let mut one = scale(r.increment, 2_000_000_000)?;
         check_eq(reply(one.take_move(all(r.to))), (0, 0, 0))?;
         check_eq(held(&one)?, (r.scale, r.scale, r.scale))?;
-        let mut other = count(Increments { x: r.increment, y: 1, z: 100_000 })?;
+        let mut other = count(Increments {
+            x: r.increment,
+            y: 1,
+            z: 100_000,
+        })?;
         check_eq(reply(other.take_move(at(r.to, r.to, 50_000))), (0, 0, 0))?;
         check_eq(held(&other)?, (r.count, r.to, 0))?;
     }
@@ -116,7 +125,10 @@ fn roundings() -> Result<(), Fail> {
 
 #[test]
 fn ranges() -> Result<(), Fail> {
-    check_eq(declined(Bounds::new(all(-2_000_000_000), all(2_000_000_000))), 0)?;
+    check_eq(
+        declined(Bounds::new(all(-2_000_000_000), all(2_000_000_000))),
+        0,
+    )?;
     check_eq(declined(Bounds::new(at(0, 0, -2_000_000_001), all(0))), 17)?;
     check_eq(declined(Bounds::new(all(0), at(2_000_000_001, 0, 0))), 17)?;
     check_eq(declined(Bounds::new(all(0), at(0, i64::MIN, 0))), 17)?;
@@ -125,9 +137,32 @@ fn ranges() -> Result<(), Fail> {
     check_eq(declined(ScaleEnd::new(1, bounds)), 0)?;
     check_eq(declined(ScaleEnd::new(100_000, bounds)), 0)?;
     check_eq(declined(ScaleEnd::new(100_001, bounds)), 17)?;
-    check_eq(declined(CountEnd::new(Increments { x: 1, y: 100_000, z: 7 }, bounds)), 0)?;
-    check_eq(declined(CountEnd::new(Increments { x: 1, y: 0, z: 7 }, bounds)), 17)?;
-    check_eq(declined(CountEnd::new(Increments { x: 1, y: 1, z: 100_001 }, bounds)), 17)
+    check_eq(
+        declined(CountEnd::new(
+            Increments {
+                x: 1,
+                y: 100_000,
+                z: 7,
+            },
+            bounds,
+        )),
+        0,
+    )?;
+    check_eq(
+        declined(CountEnd::new(Increments { x: 1, y: 0, z: 7 }, bounds)),
+        17,
+    )?;
+    check_eq(
+        declined(CountEnd::new(
+            Increments {
+                x: 1,
+                y: 1,
+                z: 100_001,
+            },
+            bounds,
+        )),
+        17,
+    )
 }
 
 #[test]
@@ -184,7 +219,10 @@ fn piles() -> Result<(), Fail> {
     check_eq(reply(pile.take_move(at(0, 60, 300))), (15, 2, 1))?;
     check_eq(reply(pile.take_move(at(201, 0, 0))), (15, 1, 0))?;
     check_eq(held(&pile)?, (0, 0, 0))?;
-    let seen = visit_pile(&mut pile, &[at(1, 2, 3), at(25, -25, 50), at(0, 0, 51), at(9, 9, 9)]);
+    let seen = visit_pile(
+        &mut pile,
+        &[at(1, 2, 3), at(25, -25, 50), at(0, 0, 51), at(9, 9, 9)],
+    );
     check_eq(seen.taken, 2)?;
     check_eq(reply(seen.end), (15, 3, 1))?;
     check_eq(held(&pile)?, (30, -30, 50))?;

@@ -16,7 +16,10 @@ impl Simulator {
     pub fn new(bounds: Bounds) -> Simulator
         ensures { λ r. ⌜ simulated (r .bounds) (r .position) ≡ simulated bounds origin ⌝ }
     {
-        Simulator { bounds, position: Point { x: 0, y: 0, z: 0 } }
+        Simulator {
+            bounds,
+            position: Point { x: 0, y: 0, z: 0 },
+        }
     }
 }
 
