@@ -7,6 +7,7 @@ pub mod end;
 pub mod increment;
 pub mod joined;
 pub mod motors;
+pub mod position;
 pub mod scale;
 pub mod standing;
 pub mod visit;

@@ -1,0 +1,2 @@
+//! An end of one's own: a simulator that holds exactly what it was sent.
+pub mod simulator;
