@@ -16,9 +16,11 @@ use Rattle.machine.specs.Replies.{replyTo, afterMove}
 use Rattle.blocks.specs.declared.types.Block.{Block}
 use Rattle.blocks.specs.declared.types.Block.the-variants.{Frame, Limit, Ordinary as ordinary}
 use Rattle.blocks.specs.declared.types.Ordinary.{Ordinary}
+use Rattle.blocks.specs.Block.{blockOf}
 use Rattle.workpiece.specs.declared.plan.Plan.{Plan}
 use Rattle.workpiece.specs.Changes.{changed}
 use Rattle.workpiece.specs.Entries.{enteredBy}
+use Rattle.workpiece.specs.Modes.{isInch}
 use Rattle.workpiece.specs.Moves.{planned, moved}
 use Rattle.workpiece.specs.Selects.{selected}
 use Rattle.workpiece.specs.Setup.{SetupState, afterReset}
@@ -74,6 +76,10 @@ obeyed s (ordinary o) = ordinaryAt s o (o .first)
 abbrev pub running : State → Result Block Fault → Result Done Fault
 running s (Err f) = Err f
 running s (Ok b) = cond (s .setup .ended) (Err Ended) (obeyed s b)
+
+-- a block's bytes, read in the unit of length in force
+abbrev pub worked : State → List ℕ → Result Done Fault
+worked s bytes = running s (blockOf bytes (isInch (s .setup .modes .unit)))
 
 abbrev pub onEntry : State → Result SetupState Fault → Result Done Fault
 onEntry s (Ok t) = Ok (unmoved (withSetup s t))

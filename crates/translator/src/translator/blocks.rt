@@ -1,13 +1,15 @@
 // Working a block.
 ghost use mathlib.Core.Path.{_≡_};
 ghost use Rattle.translator.specs.State.{stateOf, pointOf, still};
-ghost use Rattle.translator.specs.Work.{onChange, handedOver, ordinaryAt, obeyed, replied, leftBy};
+ghost use Rattle.translator.specs.Work.{onChange, handedOver, ordinaryAt, obeyed, running, worked, replied, leftBy};
 ghost use Rattle.workpiece.specs.Changes.{changed};
 ghost use Rattle.workpiece.specs.Setup.{setupOf};
+ghost use Rattle.std.specs.declared.result.Result.the-variants.{Ok};
 ghost use Rattle.std.specs.declared.option.Option.the-variants.{Some};
 ghost use Rattle.blocks.specs.declared.types.Block.the-variants.{Frame, Limit, Ordinary as ordinary};
 use super::Translator;
 use crate::reply::Reply;
+use blocks::block::typed_block;
 use blocks::types::Block;
 use blocks::types::FrameChange;
 use blocks::types::Ordinary;
@@ -18,6 +20,7 @@ use units::axis::Point;
 use units::axis::Side;
 use units::fault::Fault;
 use units::quantity::Length;
+use workpiece::modes::is_inch;
 use workpiece::plan::Plan;
 use workpiece::setup::Setup;
 
@@ -125,6 +128,27 @@ impl<E: MachineEnd> Translator<E> {
                 place,
             } => self.write_limits(*side, *values, *place),
             Block::Ordinary(ordinary) => self.ordinary(ordinary),
+        }
+    }
+
+    fn run(&mut self, block: &Block) -> Result<Reply, Fault>
+        ensures told { λ r. ⌜ r ≡ replied (running (stateOf meaning (now (self .entry))) (Ok (now (block .entry)))) ⌝ }
+        ensures left { λ _. ⌜ stateOf meaning (now (self .exit)) ≡ leftBy (stateOf meaning (now (self .entry))) (running (stateOf meaning (now (self .entry))) (Ok (now (block .entry)))) ⌝ }
+    {
+        if self.setup.ended {
+            return Err(Fault::Ended);
+        }
+        self.obey(block)
+    }
+
+    /// Works a block: which axes it moved, with targets and spreads, or why it is declined; a declined block changes nothing.
+    pub fn block(&mut self, bytes: &[u8]) -> Result<Reply, Fault>
+        ensures told { λ r. ⌜ r ≡ replied (worked (stateOf meaning (now (self .entry))) (now (bytes .entry))) ⌝ }
+        ensures left { λ _. ⌜ stateOf meaning (now (self .exit)) ≡ leftBy (stateOf meaning (now (self .entry))) (worked (stateOf meaning (now (self .entry))) (now (bytes .entry))) ⌝ }
+    {
+        match typed_block(bytes, is_inch(self.setup.modes.unit)) {
+            Ok(block) => self.run(&block),
+            Err(fault) => Err(fault),
         }
     }
 }
