@@ -8,7 +8,7 @@ use lib.Dec.{leb}
 use lib.ListN.{length, getD, set, take}
 use lib.Seq.{length-take-le, getD-take}
 use lib.ListN.{length-append}
-use borrow.Author.Tests.{lt-leb, le-leb}
+use borrow.Author.Tests.{le-leb}
 use Rattle.std.proofs.shelf.Lists.{take-more-set}
 use Rattle.std.specs.declared.option.Option.{Option}
 use Rattle.std.specs.declared.option.Option.the-variants.{Some, None}
@@ -19,9 +19,12 @@ use Rattle.units.specs.declared.fault.Fault.the-variants.{ChainFull}
 use Rattle.chains.specs.declared.step.Step.{Step}
 use Rattle.chains.specs.Chains.{stepAt, mergedStep, oneOrBoth, lengthened, appended, replied, leftBy}
 
-pub only-is : (l : List Step) (s : Step) → length l ≡ 8 → take 1 (set l 0 s) ≡ s ∷ []
-only-is [] s h = absurd (omega arith)
-only-is (x ∷ xs) s h = refl
+first-is : (l : List Step) (s : Step) → length l ≡ 8 → take 1 (set l 0 s) ≡ s ∷ []
+first-is [] s h = absurd (omega arith)
+first-is (x ∷ xs) s h = refl
+
+pub only-is : (l after : List Step) (s : Step) → after ≡ set l 0 s → length l ≡ 8 → take 1 after ≡ s ∷ []
+only-is l after s e h = ap (take 1) e ∙ first-is l s h
 
 -- the nth
 past : (ss : List Step) (n : ℕ) → length ss < n → None ≡ stepAt ss n
@@ -66,13 +69,6 @@ taken-by : (ss longer : List Step) (t : Step) → lengthened ss t ≡ longer →
 taken-by ss longer t e h =
     ap (λ (l : List Step). cond (leb (length l) 8) (Ok l) (Err (ChainFull 0))) e ∙ ap (λ (b : Bool). cond b (Ok longer) (Err (ChainFull 0))) (le-leb (length longer) 8 h)
 
-refused-by : (ss longer : List Step) (t : Step) → lengthened ss t ≡ longer → 8 < length longer → appended ss t ≡ Err (ChainFull 0)
-refused-by ss longer t e h =
-    ap (λ (l : List Step). cond (leb (length l) 8) (Ok l) (Err (ChainFull 0))) e ∙ ap (λ (b : Bool). cond b (Ok longer) (Err (ChainFull 0))) (lt-leb (length longer) 8 h)
-
-pub first-taken : (l : List Step) (t : Step) (k : ℕ) → k ≡ 0 → appended (take k l) t ≡ Ok (t ∷ [])
-first-taken l t k e = subst (λ (n : ℕ). appended (take n l) t ≡ Ok (t ∷ [])) (sym e) refl
-
 module _ (l : List Step) (k : ℕ) (t d : Step) (some : 0 < k) (few : k ≤ 8) (sized : length l ≡ 8) where
   back : suc (k - 1) ≡ k
   back = omega arith
@@ -89,12 +85,12 @@ module _ (l : List Step) (k : ℕ) (t d : Step) (some : 0 < k) (few : k ≤ 8) (
       let e : k - 1 + 1 ≡ k = omega arith in
       ap (λ (n : ℕ). take n (set l (k - 1) both)) (sym e) ∙ take-more-set l (k - 1) both g
 
-  pub merged-taken : (both : Step) → Some both ≡ mergedStep (getD l (k - 1) d) t → appended (take k l) t ≡ Ok (take k (set l (k - 1) both))
-  merged-taken both e =
+  pub merged-taken : (both : Step) (after : List Step) (n : ℕ) → after ≡ set l (k - 1) both → n ≡ k → Some both ≡ mergedStep (getD l (k - 1) d) t → appended (take k l) t ≡ Ok (take n after)
+  merged-taken both after n ea en e =
       let g : k - 1 ≤ length l = omega arith in
-      let n = length-append (take (k - 1) l) (both ∷ []) in
-      let m = length-take-le (k - 1) l g in
-      taken-by (take k l) (take (k - 1) l ++ both ∷ []) t (on-last (Some both) e) (omega arith) ∙ ap Ok (sym (merged-list both))
+      let a = length-append (take (k - 1) l) (both ∷ []) in
+      let b = length-take-le (k - 1) l g in
+      taken-by (take k l) (take (k - 1) l ++ both ∷ []) t (on-last (Some both) e) (omega arith) ∙ ap Ok (sym (merged-list both)) ∙ ap₂ (λ (i : ℕ) (xs : List Step). Ok (take i xs)) (sym en) (sym ea)
 
   whole : None ≡ mergedStep (getD l (k - 1) d) t → lengthened (take k l) t ≡ take k l ++ t ∷ []
   whole e = on-last None e ∙ again (take (k - 1) l) (getD l (k - 1) d) t ∙ ap (λ (ss : List Step). ss ++ t ∷ []) (sym split)
@@ -106,14 +102,11 @@ module _ (l : List Step) (k : ℕ) (t d : Step) (some : 0 < k) (few : k ≤ 8) (
       let m = length-take-le k l g in
       omega arith
 
-  pub full-refused : None ≡ mergedStep (getD l (k - 1) d) t → k ≡ 8 → appended (take k l) t ≡ Err (ChainFull 0)
-  full-refused e h = let n = longer in refused-by (take k l) (take k l ++ t ∷ []) t (whole e) (omega arith)
-
-  pub next-taken : None ≡ mergedStep (getD l (k - 1) d) t → k < 8 → appended (take k l) t ≡ Ok (take (k + 1) (set l k t))
-  next-taken e h =
-      let n = longer in
+  pub next-taken : (after : List Step) (n : ℕ) → after ≡ set l k t → n ≡ k → None ≡ mergedStep (getD l (k - 1) d) t → k < 8 → appended (take k l) t ≡ Ok (take (n + 1) after)
+  next-taken after n ea en e h =
+      let a = longer in
       let g : k < length l = omega arith in
-      taken-by (take k l) (take k l ++ t ∷ []) t (whole e) (omega arith) ∙ ap Ok (sym (take-more-set l k t g))
+      taken-by (take k l) (take k l ++ t ∷ []) t (whole e) (omega arith) ∙ ap Ok (sym (take-more-set l k t g)) ∙ ap₂ (λ (i : ℕ) (xs : List Step). Ok (take (i + 1) xs)) (sym en) (sym ea)
 
 -- the two clauses
 pub told-by : (ss : List Step) (t : Step) (r : Result (List Step) Fault) → appended ss t ≡ r → replied r ≡ replied (appended ss t)

@@ -201,8 +201,16 @@ module _ (steps : List Step) (k : ℕ) (m : List Bool) (tol : ℕ) (o values : L
   onward-last : (r : Result Image Fault) → throughSteps (take k steps) 1 m tol x ≡ r → onward 9 m tol (settable o) r ≡ pushed (take k steps) m tol o values
   onward-last r e = ap (onward 9 m tol (settable o)) (sym e ∙ ap (throughSteps (take k steps) 1 m tol) ex)
 
-  pub loop-refused : (i : ℕ) (p : Image) (d : Step) (f : Fault) → 0 < i → i ≤ k → throughSteps (drop i (take k steps)) (i + 1) m tol x ≡ Ok p → Err f ≡ tested (i - 1 + 1) m tol (through m (getD steps (i - 1) d) p) → Err f ≡ pushed (take k steps) m tol o values
-  loop-refused i p d f some within so e = onward-last (Err f) (push-refused (take k steps) (i - 1) 1 m tol x f (push-next steps k m tol x h i p d some within so ∙ sym e))
+  -- the step is told by its number n
+  numbered : (i n : ℕ) (r : Result Image Fault) (q : Image) → n ≡ i - 1 + 1 → r ≡ tested n m tol q → r ≡ tested (i - 1 + 1) m tol q
+  numbered i n r q en e = e ∙ ap (λ (k : ℕ). tested k m tol q) en
+
+  pub loop-next : (i n : ℕ) (p q : Image) (d : Step) → n ≡ i - 1 + 1 → 0 < i → i ≤ k → throughSteps (drop i (take k steps)) (i + 1) m tol x ≡ Ok p → Ok q ≡ tested n m tol (through m (getD steps (i - 1) d) p) → throughSteps (drop (i - 1) (take k steps)) (i - 1 + 1) m tol x ≡ Ok q
+  loop-next i n p q d en some within so e = push-next steps k m tol x h i p d some within so ∙ sym (numbered i n (Ok q) (through m (getD steps (i - 1) d) p) en e)
+
+  pub loop-refused : (i n : ℕ) (p : Image) (d : Step) (f : Fault) → n ≡ i - 1 + 1 → 0 < i → i ≤ k → throughSteps (drop i (take k steps)) (i + 1) m tol x ≡ Ok p → Err f ≡ tested n m tol (through m (getD steps (i - 1) d) p) → Err f ≡ pushed (take k steps) m tol o values
+  loop-refused i n p d f en some within so e =
+      onward-last (Err f) (push-refused (take k steps) (i - 1) 1 m tol x f (push-next steps k m tol x h i p d some within so ∙ sym (numbered i n (Err f) (through m (getD steps (i - 1) d) p) en e)))
 
   pub loop-ended : (i : ℕ) (p : Image) (s : Step) (r : Result Image Fault) → i ≤ 0 → throughSteps (drop i (take k steps)) (i + 1) m tol x ≡ Ok p → s ≡ settable o → r ≡ tested 9 m tol (through m s p) → r ≡ pushed (take k steps) m tol o values
   loop-ended i p s r z so es e = e ∙ ap (λ (t : Step). tested 9 m tol (through m t p)) es ∙ onward-last (Ok p) (push-end (take k steps) i m tol x p z so)

@@ -24,6 +24,14 @@ const FAR: u64 = 2_000_000_000;
 /// The step told with the settable offset.
 const SETTABLE: u8 = 9;
 
+/// Steps are told from 1, the outermost.
+fn step_number(place: usize) -> u8
+    requires { ⌜ place < 8 ⌝ }
+    ensures { λ r. ⌜ r ≡ place + 1 ⌝ }
+{
+    place as u8 + 1
+}
+
 fn axis_of(a: usize) -> Axis
     ensures { λ r. ⌜ r ≡ axisAt a ⌝ }
 {
@@ -134,7 +142,7 @@ pub fn push(
 {
     let mut p = start(values);
     for i in (0..chain.count).rev() {
-        match step_on(i as u8 + 1, moved, tolerance, chain.steps[i], p) {
+        match step_on(step_number(i), moved, tolerance, chain.steps[i], p) {
             Ok(q) => p = q,
             Err(fault) => return Err(fault),
         }

@@ -47,16 +47,6 @@ pub quarters-exact : (q : ℕ) (C S c s : ℤ) → Exactly C S c s → Exactly (
 quarters-exact zero C S c s t = t
 quarters-exact (suc q) C S c s t = quarters-exact q (negℤ S) C (negℤ s) c (on-exact t)
 
--- as the code has them
-pub plain : (s : ℤ) → natAbs s ≤ 10 ^ 9 → toZ w64 (ofZ w64 s) ≡ s
-plain s h = omega (arith, ints)
-
-pub minus : (s : ℤ) → natAbs s ≤ 10 ^ 9 → toZ w64 (ofZ w64 (pos 0 -ℤ toZ w64 (ofZ w64 s))) ≡ negℤ s
-minus s h = omega (arith, ints)
-
-pub widened : (n : ℕ) → n ≤ 10 ^ 9 → toZ w64 n ≡ pos n
-widened n h = omega (arith, ints)
-
 pub octant-told : (a c s : ℕ) → OctantLaw a c s → NearTo (cosine a) (sine a) (pos c) (pos s)
 octant-told a c s t = record { cosine-near = t .cosine-near; sine-near = t .sine-near; cosine-most = t .cosine-most; sine-most = t .sine-most }
 
@@ -65,16 +55,16 @@ octant-exact a c s t e =
     subst (λ (z : ℕ). Exactly (cosine z) (sine z) (pos c) (pos s)) (sym e)
     (subst₂ (λ (x y : ℕ). Exactly (cosine 0) (sine 0) (pos x) (pos y)) (sym (t .none e .0)) (sym (t .none e .1)) (record { cosine-is = refl; sine-is = refl }))
 
-yes-so : (a : ℕ) → a ≤ 450000 → leb a 450000 ≡ true
-yes-so a h = is-true (leb a 450000) (le→leb a 450000 h)
-  where
-    is-true : (t : Bool) → T t → t ≡ true
-    is-true true h = refl
-    is-true false h = absurd h
-
 -- the numbers as they are defined
-pub low-is : (a c s : ℕ) → a ≤ 450000 → OctantLaw a c s → c ≡ octantC a → s ≡ octantS a → (toZ w64 c ≡ quarterC a) × (toZ w64 s ≡ quarterS a)
-low-is a c s h t ec es = rw (yes-so a h) (widened c (t .cosine-most) ∙ ap pos ec, widened s (t .sine-most) ∙ ap pos es)
+module _ (c s c1 s1 : ℤ) (e1 : c1 ≡ negℤ s) (f1 : s1 ≡ c) where
+  pub once-on : (c1 ≡ quartersCosine 1 c s) × (s1 ≡ quartersSine 1 c s)
+  once-on = (e1, f1)
+
+  pub twice-on : (c2 s2 : ℤ) → c2 ≡ negℤ s1 → s2 ≡ c1 → (c2 ≡ quartersCosine 2 c s) × (s2 ≡ quartersSine 2 c s)
+  twice-on c2 s2 e2 f2 = (e2 ∙ ap negℤ f1, f2 ∙ e1)
+
+  pub thrice-on : (c2 s2 c3 s3 : ℤ) → c2 ≡ negℤ s1 → s2 ≡ c1 → c3 ≡ negℤ s2 → s3 ≡ c2 → (c3 ≡ quartersCosine 3 c s) × (s3 ≡ quartersSine 3 c s)
+  thrice-on c2 s2 c3 s3 e2 f2 e3 f3 = (e3 ∙ ap negℤ (f2 ∙ e1), f3 ∙ e2 ∙ ap negℤ f1)
 
 pub number-is : (a q : ℕ) (c s c′ s′ : ℤ) → a / 900000 ≡ q → c′ ≡ quartersCosine q c s → s′ ≡ quartersSine q c s → c ≡ quarterC (a % 900000) → s ≡ quarterS (a % 900000) → (c′ ≡ turnC a) × (s′ ≡ turnS a)
 unfolding turnC turnS

@@ -3,7 +3,7 @@ ghost use mathlib.Core.Path.{_≡_};
 ghost use mathlib.Core.Bool.{Bool, true, false, cond};
 ghost use mathlib.Core.List.{List, [], _∷_, _++_};
 ghost use Prim.Native.Nat.{ℕ, _<_, _≤_};
-ghost use lib.ListN.{length, take};
+ghost use lib.ListN.{length, take, set};
 ghost use Rattle.chains.specs.declared.step.Step.the-variants.{Turn};
 ghost use Rattle.chains.specs.Chains.{stepsOf, appended, replied, leftBy, stepAt, mergedStep};
 use crate::chain::Chain;
@@ -69,6 +69,15 @@ impl Chain {
         Some(self.steps[n - 1])
     }
 
+    // The step at a place; how many count stays.
+    fn put(&mut self, place: usize, step: Step)
+        requires { ⌜ place < 8 ⌝ }
+        ensures at { λ _. ⌜ now (self .exit) .steps ≡ set (now (self .entry) .steps) place step ⌝ }
+        ensures count { λ _. ⌜ now (self .exit) .count ≡ now (self .entry) .count ⌝ }
+    {
+        self.steps[place] = step;
+    }
+
     /// No step any more.
     pub fn clear(&mut self)
         ensures { λ _. ⌜ stepsOf (now (self .exit)) ≡ [] ⌝ }
@@ -80,7 +89,7 @@ impl Chain {
     pub fn replace(&mut self, step: Step)
         ensures { λ _. ⌜ stepsOf (now (self .exit)) ≡ step ∷ [] ⌝ }
     {
-        self.steps[0] = step;
+        self.put(0, step);
         self.count = 1;
     }
 
@@ -96,13 +105,13 @@ impl Chain {
         }
         let last = self.steps[self.count - 1];
         if let Some(turn) = merged(last, step) {
-            self.steps[self.count - 1] = turn;
+            self.put(self.count - 1, turn);
             return Ok(());
         }
         if self.count == Chain::MOST {
             return Err(Fault::ChainFull { place: 0 });
         }
-        self.steps[self.count] = step;
+        self.put(self.count, step);
         self.count += 1;
         Ok(())
     }

@@ -1,6 +1,7 @@
 // The turn numbers from those of the first octant.
 ghost use mathlib.Core.Path.{_≡_};
 ghost use Prim.Native.Nat.{ℕ, _+_, _-_, _*_, _/_, _%_, _^_, _<_, _≤_};
+ghost use lib.IntN.{ℤ, negℤ};
 ghost use Rattle.turns.specs.Reference.{TurnLaw};
 ghost use Rattle.turns.specs.Numbers.{quarterC, quarterS, turnC, turnS, Law};
 use crate::numbers::TurnNumbers;
@@ -27,6 +28,16 @@ fn quarter_numbers(ticks: u32) -> TurnNumbers
     }
 }
 
+/// A quarter turn further.
+fn quarter_on(n: TurnNumbers) -> TurnNumbers
+    ensures { λ r. ⌜ (r .cosine ≡ negℤ (n .sine)) × (r .sine ≡ n .cosine) ⌝ }
+{
+    TurnNumbers {
+        cosine: -n.sine,
+        sine: n.cosine,
+    }
+}
+
 /// The turn numbers of an angle. `law` is what is promised; `equal` says that they depend on the angle alone.
 pub fn turn_numbers(angle: Angle) -> TurnNumbers
     ensures law { λ r. ⌜ TurnLaw (angle .ticks) (r .cosine) (r .sine) ⌝ }
@@ -35,18 +46,9 @@ pub fn turn_numbers(angle: Angle) -> TurnNumbers
     let n = quarter_numbers(angle.ticks % 900_000);
     match angle.ticks / 900_000 {
         0 => return n,
-        1 => return TurnNumbers {
-            cosine: -n.sine,
-            sine: n.cosine,
-        },
-        2 => return TurnNumbers {
-            cosine: -n.cosine,
-            sine: -n.sine,
-        },
-        _ => return TurnNumbers {
-            cosine: n.sine,
-            sine: -n.cosine,
-        },
+        1 => return quarter_on(n),
+        2 => return quarter_on(quarter_on(n)),
+        _ => return quarter_on(quarter_on(quarter_on(n))),
     }
 }
 

@@ -3,7 +3,7 @@ use Prim.Native.Nat.{_+_, _≤_}
 use borrow.Author.Needs.{needs}
 use lib.ListN.{length}
 use Rattle.chains.specs.Chains.{stepsOf}
-use Rattle.frames.proofs.Passing.{push-start, push-next, loop-bounded, loop-refused, loop-ended}
+use Rattle.frames.proofs.Passing.{push-start, loop-next, loop-bounded, loop-refused, loop-ended}
 use Rattle.frames.proofs.Limits.{pushed-limited}
 use Rattle.frames.proofs.Whole.{pushed-sound}
 use Rattle.frames.proofs.push.push.Needs as need
@@ -21,12 +21,12 @@ step-on-requires c κs =
 pub loop-i-again : need.loop-i-again
 loop-i-again c =
     let h : c .args .chain .now .count ≤ length (c .args .chain .now .steps) = search needs in
-    push-next (c .args .chain .now .steps) (c .args .chain .now .count) (c .args .moved) (c .args .tolerance .units) (c .start-p .result) h (c .loop-i .i) (c .loop-i .p) _ (c .loop-i-test .taken) (c .loop-i .kept .i) (c .loop-i .inv) ∙ sym (c .in-Ok .ensures tt)
+    loop-next (c .args .chain .now .steps) (c .args .chain .now .count) (c .args .moved) (c .args .tolerance .units) (c .args .offset) (c .args .values) (c .start-p .result) h (c .start-p .ensures) (c .loop-i .i) (c .step-number .result) (c .loop-i .p) (c .in-Ok .q) _ (c .step-number .ensures) (c .loop-i-test .taken) (c .loop-i .kept .i) (c .loop-i .inv) (c .in-Ok .ensures tt)
 
 pub returns-in-Err : need.returns-in-Err
 returns-in-Err c =
     let h : c .args .chain .now .count ≤ length (c .args .chain .now .steps) = search needs in
-    record { told = loop-refused (c .args .chain .now .steps) (c .args .chain .now .count) (c .args .moved) (c .args .tolerance .units) (c .args .offset) (c .args .values) (c .start-p .result) h (c .start-p .ensures) (c .loop-i .i) (c .loop-i .p) _ (c .in-Err .fault) (c .loop-i-test .taken) (c .loop-i .kept .i) (c .loop-i .inv) (c .in-Err .ensures tt); sound = tt; limited = tt }
+    record { told = loop-refused (c .args .chain .now .steps) (c .args .chain .now .count) (c .args .moved) (c .args .tolerance .units) (c .args .offset) (c .args .values) (c .start-p .result) h (c .start-p .ensures) (c .loop-i .i) (c .step-number .result) (c .loop-i .p) _ (c .in-Err .fault) (c .step-number .ensures) (c .loop-i-test .taken) (c .loop-i .kept .i) (c .loop-i .inv) (c .in-Err .ensures tt); sound = tt; limited = tt }
 
 pub step-on-requires-2 : need.step-on-requires-2
 step-on-requires-2 c κs =
