@@ -34,11 +34,6 @@ pub record State : Type 0 where
 abbrev pub stateOf : {E : Type 0} → (E → Meaning) → Translator E → State
 stateOf meaning t = record { pile = topped (t .pile .own) (meaning (t .pile .below)); setup = setupOf (t .setup) }
 
--- what is told, where it is told
-abbrev pub coordinateOr : Result ℤ Fault → ℤ
-coordinateOr (Ok v) = v
-coordinateOr (Err f) = pos 0
-
 -- three targets as a point of the machine
 abbrev pub pointOf : Image → Point
 pointOf i = record { x = coordinate i 0; y = coordinate i 1; z = coordinate i 2 }

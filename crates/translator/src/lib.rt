@@ -1,4 +1,3 @@
 //! The translator: blocks, offset entries, reset and readings, over any machine end.
-pub mod held;
 pub mod reply;
 pub mod translator;

@@ -1,0 +1,2 @@
+//! Questions that any machine end answers.
+pub mod question;
