@@ -1,7 +1,7 @@
 // Making a translator, offset entries, reset and readings.
 ghost use mathlib.Core.Path.{_≡_};
 ghost use lib.IntN.{ℤ};
-ghost use Rattle.translator.specs.State.{stateOf, widest, opened, Tells};
+ghost use Rattle.translator.specs.State.{stateOf, still, widest, opened, Tells};
 ghost use Rattle.translator.specs.Work.{entered, afresh, replied, leftBy};
 use super::Translator;
 use super::blocks::still_at;
@@ -55,6 +55,13 @@ impl<E: MachineEnd> Translator<E> {
             held: held_position(&self.pile),
             chain: self.setup.frames.chain,
         }
+    }
+
+    /// The targets and spreads as a reply that moved nothing.
+    pub fn reply(&self) -> Reply
+        ensures { λ r. ⌜ r ≡ still (stateOf meaning (now (self .entry)) .setup) ⌝ }
+    {
+        still_at(&self.setup)
     }
 
     /// The pile, for questions.
