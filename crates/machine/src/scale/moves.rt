@@ -37,7 +37,8 @@ impl ScaleEnd {
 }
 
 fn multiple(increment: u32, v: i64) -> i64
-    requires { ⌜ increment-fits increment ≡ true ⌝ ∗ ⌜ natAbs v ≤ 2000000000 ⌝ }
+    requires size { ⌜ (1 ≤ increment) × (increment ≤ 100000) ⌝ }
+    requires small { ⌜ natAbs v ≤ 2000000000 ⌝ }
     ensures { λ r. ⌜ r ≡ nearestMultiple increment v ⌝ }
 {
     div_nearest(Dividend { value: v }, Divisor { value: increment }) * i64::from(increment)
