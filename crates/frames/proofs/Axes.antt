@@ -51,3 +51,20 @@ three-is m s p q a n la ls ea es =
 
 pub written-done : {A : Type 0} (f : ℕ → A) (l q : List A) (a : ℕ) → a ≡ 3 → length l ≡ 3 → q ≡ written a f l → q ≡ f 0 ∷ f 1 ∷ f 2 ∷ []
 written-done f l q a n e h = h ∙ ap (λ (k : ℕ). written k f l) n ∙ written-three f l e
+
+-- a step that keeps spreads
+cond-same : (b : Bool) (x : ℕ) → x ≡ cond b x x
+cond-same true x = refl
+cond-same false x = refl
+
+pub kept-three : (m : List Bool) (rs : List ℕ) → length rs ≡ 3 → rs ≡ cond (getD m 0 false) (getD rs 0 0) (getD rs 0 0) ∷ cond (getD m 1 false) (getD rs 1 0) (getD rs 1 0) ∷ cond (getD m 2 false) (getD rs 2 0) (getD rs 2 0) ∷ []
+kept-three m [] e = absurd (omega arith)
+kept-three m (x ∷ []) e = absurd (omega arith)
+kept-three m (x ∷ y ∷ []) e = absurd (omega arith)
+kept-three m (x ∷ y ∷ z ∷ w ∷ ws) e = absurd (omega arith)
+kept-three m (x ∷ y ∷ z ∷ []) e = λ i. cond-same (getD m 0 false) x i ∷ cond-same (getD m 1 false) y i ∷ cond-same (getD m 2 false) z i ∷ []
+
+pub at-three : (m : List Bool) (s : Step) (p q : Image) (a : ℕ) → a ≡ 3 → length (p .at) ≡ 3 → q .at ≡ written a (movedAt m s p) (p .at) → q .spread ≡ through m s p .spread → q ≡ through m s p
+at-three m s p q a n la ea es =
+    ap₂ (λ (x : List ℤ) (y : List ℕ). record { at = x; spread = y })
+    (ea ∙ ap (λ (k : ℕ). written k (movedAt m s p) (p .at)) n ∙ written-three (movedAt m s p) (p .at) la) es

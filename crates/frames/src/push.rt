@@ -102,11 +102,11 @@ fn step_on(
     number: u8,
     moved: [bool; 3],
     tolerance: Tolerance,
-    step: Step,
+    step: &Step,
     p: Image,
 ) -> Result<Image, Fault>
     requires { ⌜ Bounded p ⌝ }
-    ensures { λ r. ⌜ r ≡ passed number moved (tolerance .units) (through moved step p) ⌝ }
+    ensures { λ r. ⌜ r ≡ passed number moved (tolerance .units) (through moved (now (step .entry)) p) ⌝ }
 {
     tested(number, moved, tolerance, stepped(moved, step, p))
 }
@@ -142,10 +142,10 @@ pub fn push(
 {
     let mut p = start(values);
     for i in (0..chain.count).rev() {
-        match step_on(step_number(i), moved, tolerance, chain.steps[i], p) {
+        match step_on(step_number(i), moved, tolerance, &chain.steps[i], p) {
             Ok(q) => p = q,
             Err(fault) => return Err(fault),
         }
     }
-    step_on(SETTABLE, moved, tolerance, settable_step(offset), p)
+    step_on(SETTABLE, moved, tolerance, &settable_step(offset), p)
 }

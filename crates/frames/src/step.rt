@@ -4,9 +4,9 @@ ghost use mathlib.Core.Bool.{Bool, true, false, cond};
 ghost use Prim.Native.Nat.{ℕ, _+_, _<_, _≤_};
 ghost use lib.IntN.{ℤ, natAbs, _+ℤ_};
 ghost use lib.ListN.{length, getD};
-ghost use Rattle.chains.specs.declared.step.Step.the-variants.{Turn};
+ghost use Rattle.chains.specs.declared.step.Step.the-variants.{Offset, Scale, Mirror, Turn};
 ghost use Rattle.frames.specs.Pushing.{coordinate, spreadOf, offsetBy, scaledBy, scaledSpread, mirroredBy, newAt, newSpread, through, Bounded};
-ghost use Rattle.frames.specs.Prepared.{Suits, Prepared};
+ghost use Rattle.frames.specs.Prepared.{Suits};
 use crate::image::Image;
 use crate::round::scale_spread;
 use crate::round::scaled;
@@ -96,74 +96,143 @@ fn turned_spread(
     p.spread[a]
 }
 
-/// The coordinate of one axis after a step.
-fn axis_at(step: Step, numbers: Option<TurnNumbers>, a: usize, p: Image) -> i64
-    requires { ⌜ a < 3 ⌝ ∗ ⌜ Prepared step numbers ⌝ ∗ ⌜ Bounded p ⌝ }
-    ensures { λ r. ⌜ r ≡ newAt step a p ⌝ }
-{
-    match step {
-        Step::Offset(by) => offset_one(by[a], p.at[a]),
-        Step::Scale(by) => scale_one(by[a], p.at[a]),
-        Step::Mirror(named) => mirror_one(named[a], p.at[a]),
-        Step::Turn(plane, angle) => turned_at(plane, angle, numbers, a, p),
-    }
-}
-
-/// The spread of one axis after a step.
-fn axis_spread(step: Step, numbers: Option<TurnNumbers>, a: usize, p: Image) -> u64
-    requires { ⌜ a < 3 ⌝ ∗ ⌜ Prepared step numbers ⌝ ∗ ⌜ Bounded p ⌝ }
-    ensures { λ r. ⌜ r ≡ newSpread step a p ⌝ }
-{
-    match step {
-        Step::Offset(_) => p.spread[a],
-        Step::Scale(by) => scale_spread_one(by[a], p.at[a], p.spread[a]),
-        Step::Mirror(_) => p.spread[a],
-        Step::Turn(plane, angle) => turned_spread(plane, angle, numbers, a, p),
-    }
-}
-
-fn moved_at(moved: bool, step: Step, numbers: Option<TurnNumbers>, a: usize, p: Image) -> i64
-    requires { ⌜ a < 3 ⌝ ∗ ⌜ Prepared step numbers ⌝ ∗ ⌜ Bounded p ⌝ }
-    ensures { λ r. ⌜ r ≡ cond moved (newAt step a p) (coordinate p a) ⌝ }
+fn offset_at(moved: bool, by: [Option<Length>; 3], a: usize, p: Image) -> i64
+    requires { ⌜ a < 3 ⌝ ∗ ⌜ Bounded p ⌝ }
+    ensures { λ r. ⌜ r ≡ cond moved (newAt (Offset by) a p) (coordinate p a) ⌝ }
 {
     if moved {
-        axis_at(step, numbers, a, p)
+        offset_one(by[a], p.at[a])
     } else {
         p.at[a]
     }
 }
 
-fn moved_spread(moved: bool, step: Step, numbers: Option<TurnNumbers>, a: usize, p: Image) -> u64
-    requires { ⌜ a < 3 ⌝ ∗ ⌜ Prepared step numbers ⌝ ∗ ⌜ Bounded p ⌝ }
-    ensures { λ r. ⌜ r ≡ cond moved (newSpread step a p) (spreadOf p a) ⌝ }
+fn mirror_at(moved: bool, named: [bool; 3], a: usize, p: Image) -> i64
+    requires { ⌜ a < 3 ⌝ ∗ ⌜ Bounded p ⌝ }
+    ensures { λ r. ⌜ r ≡ cond moved (newAt (Mirror named) a p) (coordinate p a) ⌝ }
 {
     if moved {
-        axis_spread(step, numbers, a, p)
+        mirror_one(named[a], p.at[a])
+    } else {
+        p.at[a]
+    }
+}
+
+fn scale_at(moved: bool, by: [Option<Factor>; 3], a: usize, p: Image) -> i64
+    requires { ⌜ a < 3 ⌝ ∗ ⌜ Bounded p ⌝ }
+    ensures { λ r. ⌜ r ≡ cond moved (newAt (Scale by) a p) (coordinate p a) ⌝ }
+{
+    if moved {
+        scale_one(by[a], p.at[a])
+    } else {
+        p.at[a]
+    }
+}
+
+fn scale_spread_at(moved: bool, by: [Option<Factor>; 3], a: usize, p: Image) -> u64
+    requires { ⌜ a < 3 ⌝ ∗ ⌜ Bounded p ⌝ }
+    ensures { λ r. ⌜ r ≡ cond moved (newSpread (Scale by) a p) (spreadOf p a) ⌝ }
+{
+    if moved {
+        scale_spread_one(by[a], p.at[a], p.spread[a])
     } else {
         p.spread[a]
     }
 }
 
-/// What is worked out once for all axes: the turn numbers of an odd turn.
-fn prepared(step: Step) -> Option<TurnNumbers>
-    ensures { λ r. ⌜ Prepared step r ⌝ }
+fn turn_at(
+    moved: bool,
+    plane: Plane,
+    angle: Angle,
+    numbers: Option<TurnNumbers>,
+    a: usize,
+    p: Image,
+) -> i64
+    requires { ⌜ a < 3 ⌝ ∗ ⌜ Suits (angle .ticks) numbers ⌝ ∗ ⌜ Bounded p ⌝ }
+    ensures { λ r. ⌜ r ≡ cond moved (newAt (Turn plane angle) a p) (coordinate p a) ⌝ }
 {
-    match step {
-        Step::Turn(_, angle) => odd_numbers(angle),
-        _ => None,
+    if moved {
+        turned_at(plane, angle, numbers, a, p)
+    } else {
+        p.at[a]
     }
 }
 
-/// The moved axes through one step.
-pub fn stepped(moved: [bool; 3], step: Step, p: Image) -> Image
-    requires { ⌜ Bounded p ⌝ }
-    ensures { λ r. ⌜ r ≡ through moved step p ⌝ }
+fn turn_spread_at(
+    moved: bool,
+    plane: Plane,
+    angle: Angle,
+    numbers: Option<TurnNumbers>,
+    a: usize,
+    p: Image,
+) -> u64
+    requires { ⌜ a < 3 ⌝ ∗ ⌜ Suits (angle .ticks) numbers ⌝ ∗ ⌜ Bounded p ⌝ }
+    ensures { λ r. ⌜ r ≡ cond moved (newSpread (Turn plane angle) a p) (spreadOf p a) ⌝ }
 {
-    let numbers = prepared(step);
+    if moved {
+        turned_spread(plane, angle, numbers, a, p)
+    } else {
+        p.spread[a]
+    }
+}
+
+fn offset_step(moved: [bool; 3], by: [Option<Length>; 3], p: Image) -> Image
+    requires { ⌜ Bounded p ⌝ }
+    ensures { λ r. ⌜ r ≡ through moved (Offset by) p ⌝ }
+{
     let mut q = p;
     for a in 0..3 {
-        q.at[a] = moved_at(moved[a], step, numbers, a, p);
-        q.spread[a] = moved_spread(moved[a], step, numbers, a, p);
+        q.at[a] = offset_at(moved[a], by, a, p);
     }
     q
+}
+
+fn mirror_step(moved: [bool; 3], named: [bool; 3], p: Image) -> Image
+    requires { ⌜ Bounded p ⌝ }
+    ensures { λ r. ⌜ r ≡ through moved (Mirror named) p ⌝ }
+{
+    let mut q = p;
+    for a in 0..3 {
+        q.at[a] = mirror_at(moved[a], named, a, p);
+    }
+    q
+}
+
+fn scale_step(moved: [bool; 3], by: [Option<Factor>; 3], p: Image) -> Image
+    requires { ⌜ Bounded p ⌝ }
+    ensures { λ r. ⌜ r ≡ through moved (Scale by) p ⌝ }
+{
+    let mut q = p;
+    for a in 0..3 {
+        q.at[a] = scale_at(moved[a], by, a, p);
+        q.spread[a] = scale_spread_at(moved[a], by, a, p);
+    }
+    q
+}
+
+// The turn numbers are worked out once for all axes.
+fn turn_step(moved: [bool; 3], plane: Plane, angle: Angle, p: Image) -> Image
+    requires { ⌜ Bounded p ⌝ }
+    ensures { λ r. ⌜ r ≡ through moved (Turn plane angle) p ⌝ }
+{
+    let numbers = odd_numbers(angle);
+    let mut q = p;
+    for a in 0..3 {
+        q.at[a] = turn_at(moved[a], plane, angle, numbers, a, p);
+        q.spread[a] = turn_spread_at(moved[a], plane, angle, numbers, a, p);
+    }
+    q
+}
+
+/// The moved axes through one step.
+pub fn stepped(moved: [bool; 3], step: &Step, p: Image) -> Image
+    requires { ⌜ Bounded p ⌝ }
+    ensures { λ r. ⌜ r ≡ through moved (now (step .entry)) p ⌝ }
+{
+    match *step {
+        Step::Offset(by) => offset_step(moved, by, p),
+        Step::Scale(by) => scale_step(moved, by, p),
+        Step::Mirror(named) => mirror_step(moved, named, p),
+        Step::Turn(plane, angle) => turn_step(moved, plane, angle, p),
+    }
 }
