@@ -79,11 +79,11 @@ module _ (front : List ℕ → Bool) (s : List ℕ) (nil : front [] ≡ true) wh
       ⊎-elim
       (λ y. let e = ap (pick n) y in absurd (omega arith))
       (λ m.
-          let e = ap (pick n) m in
-          ⊎-elim
-          (λ low. fails n j (omega arith) (omega arith))
-          (λ high. let same : suc n ≡ j = omega arith in subst (λ k. front (take k s) ≡ false) same m)
-          (cases-lt j (suc n)))
+      let e = ap (pick n) m in
+      ⊎-elim
+      (λ low. fails n j (omega arith) (omega arith))
+      (λ high. let same : suc n ≡ j = omega arith in subst (λ k. front (take k s) ≡ false) same m)
+      (cases-lt j (suc n)))
       (split (front (take (suc n) s)))
 
 wrong-at : {Shape : List ℕ → Type 0} {front whole : List ℕ → Bool} → Tells Shape front whole → (s : List ℕ) → front [] ≡ true → whole s ≡ false → FirstWrong Shape s (longest front s (length s))
@@ -134,8 +134,8 @@ module _ (w : List ℕ) (p : ℕ) where
 
   module _ (clean : Clean w) where
     told-said : (a : Address) (o : Option Said) → Addressed w a → Follows a (tailOf w) → SaidMeans a (tailOf w) o → Told (listed p o)
-    told-said a None e f (g , u) = by-address clean (inr (subst (Addressed w) g e, subst (λ b. Follows b (tailOf w)) g f, u)) refl
-    told-said a (Some x) e f (g , v) = record { place = refl; address = subst (Addressed w) (sym g) e; follows = subst (λ b. Follows b (tailOf w)) (sym g) f; values = v }
+    told-said a None e f (g, u) = by-address clean (inr (subst (Addressed w) g e, subst (λ b. Follows b (tailOf w)) g f, u)) refl
+    told-said a (Some x) e f (g, v) = record { place = refl; address = subst (Addressed w) (sym g) e; follows = subst (λ b. Follows b (tailOf w)) (sym g) f; values = v }
 
     told-shape : (a : Address) (b : Bool) → fits a (tailOf w) ≡ b → Addressed w a → Told (cond b (listed p (saidBy a (tailOf w))) (Err (Shape (p + lettersOf w + longest (ok a) (tailOf w) (length (tailOf w))))))
     told-shape a true e h = told-said a (saidBy a (tailOf w)) h (tells-all a .whole-is (tailOf w) e) (said-means a (tailOf w))
