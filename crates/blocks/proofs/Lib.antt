@@ -4,3 +4,4 @@ pub mod Settled
 pub mod Turns
 pub mod Judged
 pub mod Concluded
+pub mod Meaning

@@ -6,3 +6,4 @@ pub mod Rules
 pub mod Typed
 pub mod Block
 pub mod Gathers
+pub mod Meaning
