@@ -5,3 +5,4 @@ pub mod Turns
 pub mod Judged
 pub mod Concluded
 pub mod Meaning
+pub mod Repeating

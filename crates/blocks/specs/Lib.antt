@@ -7,3 +7,4 @@ pub mod Typed
 pub mod Block
 pub mod Gathers
 pub mod Meaning
+pub mod Repeating
