@@ -4,3 +4,5 @@ pub mod Settled
 pub mod Turns
 pub mod Judged
 pub mod Concluded
+pub mod Meaning
+pub mod Repeating

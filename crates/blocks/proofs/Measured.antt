@@ -2,7 +2,6 @@
 use mathlib.Core.Path.{_≡_, refl, sym, ap, subst, _∙_}
 use mathlib.Core.Bool.{Bool, true, false, cond}
 use Prim.Native.Nat.{ℕ, suc, _+_, _-_, _*_, _^_, _≤_, _<_}
-use native.Mathlib.Nat.{pow-le-pow-right}
 use native.Mathlib.Omega.{arith}
 use borrow.Author.Differences.{ints}
 use borrow.Author.Tests.{leb-true}
@@ -37,9 +36,6 @@ as-angle-below n (negsuc k) r e f l m =
     let sum : n + suc k ≡ 3600000 = omega (arith, ints) in
     let same : n ≡ 3600000 - suc k = omega arith in
     e ∙ ap angleOf same ∙ sym (ap (λ b. cond b None (angleOf (3600000 - suc k))) (not-le 3600000 (suc k) (omega arith)))
-
-pub four-places : (d : ℕ) → 10 ^ (4 - d) ≤ 10000
-four-places d = let k : 4 - d ≤ 4 = omega arith in pow-le-pow-right (omega arith) k
 
 module _ (n : Number) where
   pub in-inches : (r : Option Length) (v b : ℤ) → n .decimals ≤ 4 → r ≡ lengthOf (v *ℤ b) → v ≡ n .value → b ≡ pos (254 * 10 ^ (4 - n .decimals)) → r ≡ lengthIn true n

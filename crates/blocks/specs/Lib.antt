@@ -6,3 +6,5 @@ pub mod Rules
 pub mod Typed
 pub mod Block
 pub mod Gathers
+pub mod Meaning
+pub mod Repeating

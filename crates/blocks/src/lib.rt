@@ -4,4 +4,5 @@ pub mod measures;
 pub mod order;
 pub mod rules;
 pub mod slots;
+pub mod theorems;
 pub mod types;

@@ -1,6 +1,6 @@
 // Numbers as lengths, factors and angles, where they are in range.
 ghost use mathlib.Core.Path.{_≡_};
-ghost use Prim.Native.Nat.{_^_, _≤_};
+ghost use Prim.Native.Nat.{_*_, _^_, _≤_};
 ghost use lib.IntN.{pos, _*ℤ_};
 ghost use Rattle.units.specs.Quantities.{lengthOf};
 ghost use Rattle.blocks.specs.Measures.{wholeFactor, wholeAngle, lengthIn, factorIn, angleIn};
@@ -17,8 +17,6 @@ const INCH_DECIMALS: usize = 4;
 const FACTOR_DECIMALS: usize = 5;
 
 const ANGLE_DECIMALS: usize = 4;
-/// Units in a ten-thousandth of an inch.
-const INCH_UNITS: i64 = 254;
 
 fn power(k: usize) -> i64
     requires { ⌜ k ≤ 5 ⌝ }
@@ -31,6 +29,20 @@ fn power(k: usize) -> i64
         3 => 1000,
         4 => 10000,
         _ => 100000,
+    }
+}
+
+// Units in an inch over a power of ten: 10^k ten-thousandths of an inch.
+fn inch_power(k: usize) -> i64
+    requires { ⌜ k ≤ 4 ⌝ }
+    ensures { λ r. ⌜ r ≡ pos (254 * 10 ^ k) ⌝ }
+{
+    match k {
+        0 => 254,
+        1 => 2_540,
+        2 => 25_400,
+        3 => 254_000,
+        _ => 2_540_000,
     }
 }
 
@@ -98,7 +110,7 @@ pub fn length(inch: bool, n: Number) -> Option<Length>
         if n.decimals > INCH_DECIMALS {
             return None;
         }
-        return product_length(n.value, INCH_UNITS * power(INCH_DECIMALS - n.decimals));
+        return product_length(n.value, inch_power(INCH_DECIMALS - n.decimals));
     }
     if n.decimals > MILLIMETRE_DECIMALS {
         return None;

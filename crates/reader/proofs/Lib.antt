@@ -6,3 +6,4 @@ pub mod Fronts
 pub mod Clean
 pub mod Says
 pub mod Standing
+pub mod Meaning

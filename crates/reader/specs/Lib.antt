@@ -6,3 +6,4 @@ pub mod Pieces
 pub mod WordList
 pub mod Reading
 pub mod Standing
+pub mod Meaning

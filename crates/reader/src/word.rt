@@ -63,6 +63,12 @@ fn letters(s: &[u8]) -> usize
 }
 
 // Capital and small letters mean the same.
+fn capital(b: u8) -> u8
+    ensures { λ r. ⌜ r ≡ upper b ⌝ }
+{
+    b.to_ascii_uppercase()
+}
+
 fn spells(s: &[u8], name: &[u8]) -> bool
     ensures { λ r. ⌜ Decides r (map upper (now (s .entry)) ≡ now (name .entry)) ⌝ }
 {
@@ -70,7 +76,7 @@ fn spells(s: &[u8], name: &[u8]) -> bool
         return false;
     }
     for i in 0..s.len() {
-        if s[i].to_ascii_uppercase() != name[i] {
+        if capital(s[i]) != name[i] {
             return false;
         }
     }
@@ -125,7 +131,7 @@ pub fn address(s: &[u8]) -> Option<Address>
     ensures { λ r. ⌜ BySome r ((a : Addresses) → Names (now (s .entry)) a → ⊥) (Names (now (s .entry))) ⌝ }
 {
     match s {
-        [b] => letter((*b as char).to_ascii_uppercase()),
+        [b] => letter(capital(*b) as char),
         _ => {
             if spells(s, b"RPL") {
                 Some(Address::Rpl)

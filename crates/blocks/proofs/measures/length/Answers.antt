@@ -8,19 +8,19 @@ use mir.Syntax.{w64}
 use mir.Val.{toZ, ofZ}
 use Rattle.std.proofs.shelf.Signed.{ints}
 use Rattle.blocks.specs.Measures.{lengthIn}
-use Rattle.blocks.proofs.Measured.{in-inches, in-millimetres, four-places}
+use Rattle.blocks.proofs.Measured.{in-inches, in-millimetres}
 use Rattle.blocks.proofs.measures.length.Needs as need
 
 pub returns-then-inch : need.returns-then-inch
 returns-then-inch c =
     let n = c .args .n in
     let v : toZ w64 (ofZ w64 (c .args .n .value)) ≡ c .args .n .value = search needs in
-    let b : toZ w64 (ofZ w64 (pos 254 *ℤ toZ w64 (ofZ w64 (c .power .result)))) ≡ pos (254 * 10 ^ (4 - c .args .n .decimals)) = omega (arith, ints, c .power .ensures, four-places (c .args .n .decimals)) in
-    in-inches n (c .product-length .result) (toZ w64 (ofZ w64 (c .args .n .value))) (toZ w64 (ofZ w64 (pos 254 *ℤ toZ w64 (ofZ w64 (c .power .result))))) (omega arith) (c .product-length .ensures) v b ∙ ap (λ i. lengthIn i n) (sym (c .if-inch .taken))
+    let b : toZ w64 (ofZ w64 (c .inch-power .result)) ≡ pos (254 * 10 ^ (4 - c .args .n .decimals)) = omega (arith, ints, c .inch-power .ensures) in
+    in-inches n (c .product-length .result) (toZ w64 (ofZ w64 (c .args .n .value))) (toZ w64 (ofZ w64 (c .inch-power .result))) (omega arith) (c .product-length .ensures) v b ∙ ap (λ i. lengthIn i n) (sym (c .if-inch .taken))
 
 pub returns : need.returns
 returns c =
     let n = c .args .n in
     let v : toZ w64 (ofZ w64 (c .args .n .value)) ≡ c .args .n .value = search needs in
-    let b : toZ w64 (ofZ w64 (c .power-2 .result)) ≡ pos (10 ^ (5 - c .args .n .decimals)) = omega (arith, ints, c .power-2 .ensures) in
-    in-millimetres n (c .product-length-2 .result) (toZ w64 (ofZ w64 (c .args .n .value))) (toZ w64 (ofZ w64 (c .power-2 .result))) (omega arith) (c .product-length-2 .ensures) v b ∙ ap (λ i. lengthIn i n) (sym (c .if-inch .left))
+    let b : toZ w64 (ofZ w64 (c .power .result)) ≡ pos (10 ^ (5 - c .args .n .decimals)) = omega (arith, ints, c .power .ensures) in
+    in-millimetres n (c .product-length-2 .result) (toZ w64 (ofZ w64 (c .args .n .value))) (toZ w64 (ofZ w64 (c .power .result))) (omega arith) (c .product-length-2 .ensures) v b ∙ ap (λ i. lengthIn i n) (sym (c .if-inch .left))

@@ -16,7 +16,7 @@ pub returns-in-len1 : need.returns-in-len1
 returns-in-len1 c =
     let low : 1 ≤ length (c .args .s .now) = search needs in
     let high : length (c .args .s .now) < 2 = search needs in
-    subst (λ (l : List ℕ). Cases (c .letter .result) ((a : Address) → l ≡ spelled a → ⊥) (λ a. l ≡ spelled a)) (one (c .args .s .now) _ low high (c .to-ascii-uppercase .ensures .value)) (c .letter .ensures)
+    subst (λ (l : List ℕ). Cases (c .letter .result) ((a : Address) → l ≡ spelled a → ⊥) (λ a. l ≡ spelled a)) (one (c .args .s .now) _ low high (c .capital .ensures)) (c .letter .ensures)
 
 pub returns-in-None : need.returns-in-None
 returns-in-None c =
