@@ -19,6 +19,7 @@ use Rattle.reader.specs.declared.functions.GFunction.the-variants.{Motion, Plan
 use Rattle.reader.specs.declared.types.FrameName.{FrameName}
 use Rattle.reader.specs.declared.types.Passed.{Passed}
 use Rattle.reader.specs.declared.functions.MFunction.{MFunction}
+use Rattle.reader.specs.declared.functions.MFunction.the-variants.{End, Other}
 use Rattle.reader.specs.declared.types.Number.{Number}
 use Rattle.reader.specs.declared.types.Said.{Said}
 use Rattle.reader.specs.declared.types.Said.the-variants.{Name as sName, Axis as sAxis, Rpl as sRpl, G as sG, M as sM, N as sN, Passed as sPassed}
@@ -28,9 +29,10 @@ use Rattle.blocks.specs.declared.gathered.Instruction.{Instruction}
 use Rattle.blocks.specs.declared.gathered.Placed.{Placed}
 use Rattle.blocks.specs.declared.gathered.Measured.{Measured}
 use Rattle.blocks.specs.Slots.{over, hit, sameAxis, axisIndex}
-use Rattle.blocks.specs.Found.{find, has, isName, isPassed, isN, axisOf, rplOf, gOf, motionOf, planeOf, settableOf, machineOf, unitOf, distanceOf, isLimit, countM, repeatedG, repeated}
+use Rattle.blocks.specs.Found.{find, has, isName, isPassed, isN, axisOf, rplOf, gOf, motionOf, planeOf, settableOf, machineOf, unitOf, distanceOf, isLimit, countM, endsM, repeatedG, repeated}
 use Rattle.blocks.specs.Order.{keep, instructs, placed, instruction}
-use Rattle.blocks.specs.Repeating.{kind, groupIndex, which, kin, count, most, FirstInstruction, Kinds}
+use Rattle.blocks.specs.Repeating.{kind, groupIndex, which, kin, count, most, isEnd, Finds, FirstInstruction, Kinds}
+use Rattle.blocks.proofs.Meaning.{find-none, find-some}
 
 -- one is there exactly when at least one is counted
 more : (b : Bool) (n : ℕ) → leb 1 (cond b 1 0 + n) ≡ (b || leb 1 n)
@@ -253,5 +255,34 @@ first-of (x ∷ ws) i e =
     (λ r. let h = placed-some (instructs (x .says)) (x .place) i (r .1) in record { after = []; word = x; earlier = ws; parts = refl; is = h .0; place = h .1; none = none-of ws (r .0) })
     (keep-either (instruction ws) (placed (instructs (x .says)) (x .place)) i e)
 
+ends-is : (ws : List Item) → endsM ws ≡ has isEnd ws
+ends-is [] = refl
+ends-is (x ∷ ws) = one (x .says) ∙ ap (λ b. isEnd (x .says) || b) (ends-is ws)
+  where
+    one : (s : Said) → endsM (record { says = s; place = x .place } ∷ ws) ≡ (isEnd s || endsM ws)
+    one (sName f) = refl
+    one (sAxis a n) = refl
+    one (sRpl n) = refl
+    one (sG g) = refl
+    one (sM End) = refl
+    one (sM Other) = refl
+    one sN = refl
+    one (sPassed a) = refl
+
+finds : {V : Type 0} (pick : Item → Option V) (ws : List Item) → Finds pick ws
+finds pick ws = record { none = find-none pick ws; some = find-some pick ws }
+
 pub stand : Kinds
-stand = record { again = again; first = first-of; none = none-of }
+stand = record {
+  motions = finds (gOf motionOf);
+  planes = finds (gOf planeOf);
+  settables = finds (gOf settableOf);
+  machines = finds (gOf machineOf);
+  units = finds (gOf unitOf);
+  distances = finds (gOf distanceOf);
+  axes = λ a. finds (axisOf a);
+  ends = ends-is;
+  again = again;
+  first = first-of;
+  none = none-of;
+}

@@ -10,8 +10,9 @@ pub fn block_stands() -> u8
     0
 }
 
-/// A word is repeated when as many earlier words have its address or G group as may stand in a block, five for M and
-/// one for any other; the instruction of a block is its first frame name, G25 or G26.
+/// What is found in a slot is what a word of the block says, and nothing where no word says it. A word is repeated
+/// when as many earlier words have its address or G group as may stand in a block, five for M and one for any other.
+/// The instruction of a block is its first frame name, G25 or G26.
 pub fn kinds_stand() -> u8
     ensures { λ _. ⌜ Kinds ⌝ }
 {
