@@ -5,3 +5,6 @@ pub mod Plans
 pub mod Moving
 pub mod Entering
 pub mod Calls
+pub mod Fifteen
+pub mod Growing
+pub mod Law

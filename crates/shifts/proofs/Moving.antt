@@ -164,8 +164,8 @@ module _ {inc : Axis → ℕ} {q : Plain} {s : State} (f : Follows inc q s) (o :
     exact-so : (a : ℕ) → a < 3 → imageOf q (newValue q o) a ≡ exactImage (s .setup .steps) (offsetOf (s .setup .records) (frameNumber (s .setup .force .settable))) (valuesOr (w .values)) a
     exact-so a h =
         let through : exactThrough (q .steps) (λ b. wholeOf (newValue q o b)) a ≡ exactThrough (s .setup .steps) (exactValues (valuesOr (w .values))) a =
-            ap (λ (ss : List Step). exactThrough ss (λ b. wholeOf (newValue q o b)) a) (f .steps) ∙
-            through-same (s .setup .steps) (λ b. wholeOf (newValue q o b)) (exactValues (valuesOr (w .values))) (λ b k. whole-is (getD (w .values) b None) (newValue q o b) (value-so b k) ∙ values-at b k) a h in
+        ap (λ (ss : List Step). exactThrough ss (λ b. wholeOf (newValue q o b)) a) (f .steps) ∙
+        through-same (s .setup .steps) (λ b. wholeOf (newValue q o b)) (exactValues (valuesOr (w .values))) (λ b k. whole-is (getD (w .values) b None) (newValue q o b) (value-so b k) ∙ values-at b k) a h in
         λ i. shifted (through i) (entry-so a h i)
 
     moves-so : (a : ℕ) → moves q o a ≡ getD (movedAxes (s .setup .steps) (namedBy (o .words))) a false

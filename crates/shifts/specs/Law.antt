@@ -23,6 +23,7 @@ use Rattle.frames.specs.Theorems.{NoneEnlarges, Grown, weightOf}
 use Rattle.blocks.specs.Block.{blockOf}
 use Rattle.blocks.specs.declared.types.Block.{Block}
 use Rattle.blocks.specs.declared.types.Block.the-variants.{Frame, Limit, Ordinary as ordinary}
+use Rattle.blocks.specs.declared.types.Ordinary.{Ordinary}
 use Rattle.workpiece.specs.declared.plan.Plan.{Plan}
 use Rattle.workpiece.specs.Modes.{isInch}
 use Rattle.workpiece.specs.Moves.{planned}
@@ -69,15 +70,15 @@ abbrev pub targetsOfPlan : Result Plan Fault → Option Point
 targetsOfPlan (Ok p) = Some (pointOf (p .image))
 targetsOfPlan (Err f) = None
 
+abbrev pub targetsAt : State → Ordinary → Option ℕ → Option Point
+targetsAt s o None = None
+targetsAt s o (Some place) = targetsOfPlan (planned (s .setup) o)
+
 abbrev pub targetsOfBlock : State → Result Block Fault → Option Point
 targetsOfBlock s (Err f) = None
 targetsOfBlock s (Ok (Frame change place)) = None
 targetsOfBlock s (Ok (Limit side values place)) = None
-targetsOfBlock s (Ok (ordinary o)) = cond (s .setup .ended) None (planTargets (o .first))
-  where
-    planTargets : Option ℕ → Option Point
-    planTargets None = None
-    planTargets (Some place) = targetsOfPlan (planned (s .setup) o)
+targetsOfBlock s (Ok (ordinary o)) = cond (s .setup .ended) None (targetsAt s o (o .first))
 
 -- the three targets that a block hands to the pile: it moves an axis, and no check before 15 declines it
 abbrev pub targetsOf : State → List ℕ → Option Point

@@ -71,7 +71,11 @@ pub fn make_call<E: MachineEnd>(translator: &mut Translator<E>, call: &Call) -> 
 }
 
 // Makes the calls in turn.
-fn work<E: MachineEnd>(translator: &mut Translator<E>, calls: &[Call], heap: Global) -> Result<Vec<Seen>, AllocError>
+fn work<E: MachineEnd>(
+    translator: &mut Translator<E>,
+    calls: &[Call],
+    heap: Global,
+) -> Result<Vec<Seen>, AllocError>
     ensures { λ r. ⌜ made r (λ seen. Replied (stateOf meaning (now (translator .entry))) (now (calls .entry)) (vec-items seen) (stateOf meaning (now (translator .exit)))) ⌝ }
 {
     let mut seen = Vec::new(heap);
@@ -83,7 +87,12 @@ fn work<E: MachineEnd>(translator: &mut Translator<E>, calls: &[Call], heap: Glo
 }
 
 /// A whole shift over an end: what was told at the start and after each call. The only failure is want of memory for the list.
-pub fn shift<E: MachineEnd + Drop>(heap: Global, end: E, tolerance: Tolerance, calls: &[Call]) -> Result<Worked<E>, AllocError>
+pub fn shift<E: MachineEnd + Drop>(
+    heap: Global,
+    end: E,
+    tolerance: Tolerance,
+    calls: &[Call],
+) -> Result<Worked<E>, AllocError>
     ensures opening { λ r. ⌜ made r (λ w. Tells (opened (meaning end) tolerance) (w .opening)) ⌝ }
     ensures replies { λ r. ⌜ made r (λ w. Replied (opened (meaning end) tolerance) (now (calls .entry)) (vec-items (w .seen)) (stateOf meaning (w .translator))) ⌝ }
     ensures law { λ r. ⌜ made r (λ w. Law (meaning end) tolerance (now (calls .entry)) (w .opening) (vec-items (w .seen))) ⌝ }
@@ -91,5 +100,9 @@ pub fn shift<E: MachineEnd + Drop>(heap: Global, end: E, tolerance: Tolerance, c
     let mut translator = Translator::new(end, tolerance);
     let opening = translator.read();
     let seen = work(&mut translator, calls, heap)?;
-    Ok(Worked { translator, opening, seen })
+    Ok(Worked {
+        translator,
+        opening,
+        seen,
+    })
 }
