@@ -37,7 +37,10 @@ pub impl fmt::Display for Declined as DeclinedDisplay {
         let axis = d.axis;
         let step = d.step;
         let level = d.level;
-        write!(f, "declined {number} at {place} axis {axis} step {step} level {level} layer {layer}")
+        write!(
+            f,
+            "declined {number} at {place} axis {axis} step {step} level {level} layer {layer}"
+        )
     }
 }
 
@@ -165,11 +168,19 @@ fn parts_of(factor: Option<Factor>) -> Option<i64> {
 }
 
 pub fn lengths(values: [Option<Length>; 3]) -> ByAxis {
-    ByAxis([units_of(values[0]), units_of(values[1]), units_of(values[2])])
+    ByAxis([
+        units_of(values[0]),
+        units_of(values[1]),
+        units_of(values[2]),
+    ])
 }
 
 pub fn factors(values: [Option<Factor>; 3]) -> ByAxis {
-    ByAxis([parts_of(values[0]), parts_of(values[1]), parts_of(values[2])])
+    ByAxis([
+        parts_of(values[0]),
+        parts_of(values[1]),
+        parts_of(values[2]),
+    ])
 }
 
 /// The letters of some axes, each after a space.

@@ -1,4 +1,7 @@
 // Checking a programme text block by block.
+ghost use mathlib.Core.Path.{_≡_};
+ghost use Prim.Native.Nat.{ℕ, _+_, _^_, _<_};
+ghost use Rattle.jobs.specs.Checks.{counted, inchAfter};
 use crate::answers::Declined;
 use crate::answers::DeclinedDisplay;
 use crate::report::Report;
@@ -28,7 +31,7 @@ impl fmt::Display for Judged as JudgedDisplay {
         match self.block {
             Ok(block) => {
                 let says = Says(block);
-                write!(f, "byte {start} right {says}")
+                write!(f, "byte {start} right{says}")
             }
             Err(fault) => {
                 let declined = Declined(fault);
@@ -54,16 +57,27 @@ impl fmt::Display for Tally as TallyDisplay {
 }
 
 impl Tally {
-    fn count(&mut self, block: Result<Block, Fault>) {
+    fn with(self, block: Result<Block, Fault>) -> Tally
+        requires { ⌜ self .right + self .declined + 1 < 2 ^ 64 ⌝ }
+        ensures { λ r. ⌜ r ≡ counted self block ⌝ }
+    {
         match block {
-            Ok(_) => self.right += 1,
-            Err(_) => self.declined += 1,
+            Ok(_) => Tally {
+                right: self.right + 1,
+                declined: self.declined,
+            },
+            Err(_) => Tally {
+                right: self.right,
+                declined: self.declined + 1,
+            },
         }
     }
 }
 
 // Whether inches are in force after a block.
-fn inch_after(block: Result<Block, Fault>, inch: bool) -> bool {
+fn inch_after(block: Result<Block, Fault>, inch: bool) -> bool
+    ensures { λ r. ⌜ r ≡ inchAfter block inch ⌝ }
+{
     match block {
         Ok(Block::Ordinary(ordinary)) => match ordinary.selections.unit {
             Some(LengthUnit::Inch) => true,
@@ -87,7 +101,7 @@ fn check_blocks(text: &[u8], report: &mut Report) -> Result<(), AllocError> {
             start: line.start,
             block,
         })?;
-        tally.count(block);
+        tally = tally.with(block);
         inch = inch_after(block, inch);
     }
     report.say(tally)

@@ -1,4 +1,7 @@
 // From the numbers of a line to what a call takes; out of range is 17.
+ghost use mathlib.Core.Path.{_≡_};
+ghost use Rattle.jobs.specs.Conversions.{orArgument, toleranceAsked, questionOf, shiftCallOf};
+ghost use Rattle.units.specs.Quantities.{toleranceOf};
 use machine::bounds::Bounds;
 use machine::count::CountEnd;
 use machine::motors::Increments;
@@ -12,21 +15,31 @@ use units::axis::Point;
 use units::fault::Fault;
 use units::quantity::Tolerance;
 
-/// An end that a line made.
+/// What a call makes of an end line: the end, or why there is none. `Other` is any other call.
 #[derive(Drop)]
-pub enum End {
+pub enum EndCall {
     Scale(ScaleEnd),
     Count(CountEnd),
+    Declined(Fault),
+    Other,
 }
 
-pub fn tolerance(units: i64) -> Result<Tolerance, Fault> {
-    if units < 0 {
-        return Err(Fault::Argument);
-    }
-    match Tolerance::new(units as u64) {
+fn within_range(units: u64) -> Result<Tolerance, Fault>
+    ensures { λ r. ⌜ r ≡ orArgument (toleranceOf units) ⌝ }
+{
+    match Tolerance::new(units) {
         Some(tolerance) => Ok(tolerance),
         None => Err(Fault::Argument),
     }
+}
+
+pub fn tolerance(units: i64) -> Result<Tolerance, Fault>
+    ensures { λ r. ⌜ r ≡ toleranceAsked units ⌝ }
+{
+    if units < 0 {
+        return Err(Fault::Argument);
+    }
+    within_range(units as u64)
 }
 
 pub fn bounds(limits: Limits) -> Result<Bounds, Fault> {
@@ -48,28 +61,34 @@ fn increments(units: Point) -> Result<Increments, Fault> {
     })
 }
 
-fn scale_end(units: i64, limits: Limits) -> Result<End, Fault> {
+fn scale_end(units: i64, limits: Limits) -> Result<ScaleEnd, Fault> {
     let bounds = bounds(limits)?;
-    let end = ScaleEnd::new(increment(units)?, bounds)?;
-    Ok(End::Scale(end))
+    ScaleEnd::new(increment(units)?, bounds)
 }
 
-fn count_end(units: Point, limits: Limits) -> Result<End, Fault> {
+fn count_end(units: Point, limits: Limits) -> Result<CountEnd, Fault> {
     let bounds = bounds(limits)?;
-    let end = CountEnd::new(increments(units)?, bounds)?;
-    Ok(End::Count(end))
+    CountEnd::new(increments(units)?, bounds)
 }
 
-/// The end that a call makes, or why it makes none; none where it is another call.
-pub fn end_of(call: Option<Call>) -> Option<Result<End, Fault>> {
+/// The end that a line makes.
+pub fn end_call(call: Option<Call>) -> EndCall {
     match call {
-        Some(Call::ScaleEnd { increment, limits }) => Some(scale_end(increment, limits)),
-        Some(Call::CountEnd { increments, limits }) => Some(count_end(increments, limits)),
-        _ => None,
+        Some(Call::ScaleEnd { increment, limits }) => match scale_end(increment, limits) {
+            Ok(end) => EndCall::Scale(end),
+            Err(fault) => EndCall::Declined(fault),
+        },
+        Some(Call::CountEnd { increments, limits }) => match count_end(increments, limits) {
+            Ok(end) => EndCall::Count(end),
+            Err(fault) => EndCall::Declined(fault),
+        },
+        _ => EndCall::Other,
     }
 }
 
-pub fn question(asked: Asked) -> Question {
+pub fn question(asked: Asked) -> Question
+    ensures { λ r. ⌜ r ≡ questionOf asked ⌝ }
+{
     match asked {
         Asked::Boxes => Question::Boxes,
         Asked::Limit { level, axis, side } => Question::Limit { level, axis, side },
@@ -80,7 +99,9 @@ pub fn question(asked: Asked) -> Question {
 }
 
 /// The call of a shift that a line makes; none where it is another call.
-pub fn shift_call(call: Option<Call<'_>>) -> Option<ShiftCall<'_>> {
+pub fn shift_call(call: Option<Call<'_>>) -> Option<ShiftCall<'_>>
+    ensures { λ r. ⌜ r ≡ shiftCallOf (call .entry) ⌝ }
+{
     match call {
         Some(Call::Block(bytes)) => Some(ShiftCall::Block(bytes)),
         Some(Call::Entry { frame, offset }) => Some(ShiftCall::Entry { frame, offset }),

@@ -1,4 +1,7 @@
 // The lines between an end and its translator.
+ghost use Prim.Native.Nat.{_≤_};
+ghost use lib.ListN.{length};
+ghost use Rattle.std.specs.Vec.{made};
 use crate::answers::Declined;
 use crate::answers::DeclinedDisplay;
 use crate::convert::bounds;
@@ -23,53 +26,42 @@ use units::axis::Point;
 use units::fault::Fault;
 use units::quantity::Tolerance;
 
-/// What a line puts on an end: a work area, or a translator.
+/// What a call puts on an end: a work area, a translator, or nothing, with the reason. `Other` is any other call.
 #[derive(Clone, Copy)]
-enum Layered {
+enum LayerCall {
     Area(Bounds),
     New(Tolerance),
+    Declined(Fault),
+    Other,
 }
 
-/// A layer, and how many lines were worked with the one that makes it.
+/// What the last of some lines puts on an end.
 #[derive(Clone, Copy)]
 struct Next {
     lines: usize,
-    layer: Layered,
+    layer: LayerCall,
 }
 
-fn area(limits: Limits) -> Result<Layered, Fault> {
+fn area(limits: Limits) -> LayerCall {
     match bounds(limits) {
-        Ok(bounds) => Ok(Layered::Area(bounds)),
-        Err(fault) => Err(fault),
+        Ok(bounds) => LayerCall::Area(bounds),
+        Err(fault) => LayerCall::Declined(fault),
     }
 }
 
-fn new_translator(units: i64) -> Result<Layered, Fault> {
+fn new_translator(units: i64) -> LayerCall {
     match tolerance(units) {
-        Ok(tolerance) => Ok(Layered::New(tolerance)),
-        Err(fault) => Err(fault),
+        Ok(tolerance) => LayerCall::New(tolerance),
+        Err(fault) => LayerCall::Declined(fault),
     }
 }
 
-// What a call puts on the end, or why it does not; none where it is another call. `more` tells whether an area may come.
-fn layer_of(call: Option<Call>, more: bool) -> Option<Result<Layered, Fault>> {
+// `more` tells whether another area may come.
+fn layer_call(call: Option<Call>, more: bool) -> LayerCall {
     match call {
-        Some(Call::Area(limits)) => {
-            if more {
-                Some(area(limits))
-            } else {
-                None
-            }
-        }
-        Some(Call::New { tolerance }) => Some(new_translator(tolerance)),
-        _ => None,
-    }
-}
-
-fn say_layer(layer: Layered, report: &mut Report) -> Result<(), AllocError> {
-    match layer {
-        Layered::Area(_) => report.say("area made"),
-        Layered::New(_) => report.say("translator made"),
+        Some(Call::Area(limits)) => { if more { area(limits) } else { LayerCall::Other } }
+        Some(Call::New { tolerance }) => new_translator(tolerance),
+        _ => LayerCall::Other,
     }
 }
 
@@ -98,55 +90,72 @@ fn work_line<E: MachineEnd>(
     }
 }
 
-// Works the lines up to one that puts a layer on the end.
+// Works the lines up to one that puts a layer on the end; `Other` where none does.
 fn work_lines<E: MachineEnd>(
     end: &mut E,
     lines: &[ScriptLine],
     more: bool,
     report: &mut Report,
-) -> Result<Option<Next>, AllocError> {
+) -> Result<Next, AllocError>
+    ensures { λ r. ⌜ made r (λ next. next .lines ≤ length (now (lines .entry))) ⌝ }
+{
     for i in 0..lines.len() {
         let line = lines[i];
-        match layer_of(line.call, more) {
-            Some(Ok(layer)) => {
-                say_layer(layer, report)?;
-                return Ok(Some(Next {
+        let layer = layer_call(line.call, more);
+        match layer {
+            LayerCall::Area(_) => {
+                report.say("area made")?;
+                return Ok(Next {
                     lines: i + 1,
                     layer,
-                }));
+                });
             }
-            Some(Err(fault)) => report.say(Declined(fault))?,
-            None => work_line(end, line, report)?,
+            LayerCall::New(_) => {
+                report.say("translator made")?;
+                return Ok(Next {
+                    lines: i + 1,
+                    layer,
+                });
+            }
+            LayerCall::Declined(fault) => report.say(Declined(fault))?,
+            LayerCall::Other => work_line(end, line, report)?,
         }
     }
-    Ok(None)
+    Ok(Next {
+        lines: lines.len(),
+        layer: LayerCall::Other,
+    })
 }
 
+// The end with two areas on it.
 fn work_under_two<E: MachineEnd + Drop>(
     heap: Global,
     mut end: E,
     lines: &[ScriptLine],
     report: &mut Report,
 ) -> Result<(), AllocError> {
-    match work_lines(&mut end, lines, false, report)? {
-        Some(Next { lines: n, layer: Layered::New(tolerance) }) => work_shift(heap, end, tolerance, &lines[n..], report),
+    let next = work_lines(&mut end, lines, false, report)?;
+    let worked = next.lines;
+    match next.layer {
+        LayerCall::New(tolerance) => work_shift(heap, end, tolerance, &lines[worked..], report),
         _ => Ok(()),
     }
 }
 
+// The end with one area on it.
 fn work_under_one<E: MachineEnd + Drop>(
     heap: Global,
     mut end: E,
     lines: &[ScriptLine],
     report: &mut Report,
 ) -> Result<(), AllocError> {
-    let Some(next) = work_lines(&mut end, lines, true, report)? else {
-        return Ok(());
-    };
-    let rest = &lines[next.lines..];
+    let next = work_lines(&mut end, lines, true, report)?;
+    let worked = next.lines;
+    let rest = &lines[worked..];
     match next.layer {
-        Layered::Area(bounds) => work_under_two(heap, WorkArea::over(bounds, end), rest, report),
-        Layered::New(tolerance) => work_shift(heap, end, tolerance, rest, report),
+        LayerCall::Area(bounds) => work_under_two(heap, WorkArea::over(bounds, end), rest, report),
+        LayerCall::New(tolerance) => work_shift(heap, end, tolerance, rest, report),
+        _ => Ok(()),
     }
 }
 
@@ -158,12 +167,12 @@ pub fn work_end<E: MachineEnd + Drop>(
     report: &mut Report,
 ) -> Result<(), AllocError> {
     report.say("end made")?;
-    let Some(next) = work_lines(&mut end, lines, true, report)? else {
-        return Ok(());
-    };
-    let rest = &lines[next.lines..];
+    let next = work_lines(&mut end, lines, true, report)?;
+    let worked = next.lines;
+    let rest = &lines[worked..];
     match next.layer {
-        Layered::Area(bounds) => work_under_one(heap, WorkArea::over(bounds, end), rest, report),
-        Layered::New(tolerance) => work_shift(heap, end, tolerance, rest, report),
+        LayerCall::Area(bounds) => work_under_one(heap, WorkArea::over(bounds, end), rest, report),
+        LayerCall::New(tolerance) => work_shift(heap, end, tolerance, rest, report),
+        _ => Ok(()),
     }
 }

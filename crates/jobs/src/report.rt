@@ -5,7 +5,8 @@ use crate::answers::NotUnderstood;
 use crate::answers::NotUnderstoodDisplay;
 use crate::answers::Tells;
 use crate::answers::TellsDisplay;
-use crate::convert::end_of;
+use crate::convert::EndCall;
+use crate::convert::end_call;
 use crate::script_lines::ScriptLine;
 use questions::question::Told;
 use script::call::Call;
@@ -52,8 +53,8 @@ pub fn say_aside(line: ScriptLine, report: &mut Report) -> Result<(), AllocError
     if let Some(Call::Rolls { .. }) = line.call {
         return Ok(());
     }
-    match end_of(line.call) {
-        Some(Err(fault)) => report.say(Declined(fault)),
+    match end_call(line.call) {
+        EndCall::Declined(fault) => report.say(Declined(fault)),
         _ => report.say(NotUnderstood { line: line.number }),
     }
 }

@@ -31,19 +31,19 @@ impl fmt::Display for Instruction as InstructionDisplay {
         match self.step {
             FrameStep::Offset(values) => {
                 let values = lengths(values);
-                write!(f, "{a}TRANS{values}")
+                write!(f, " {a}TRANS{values}")
             }
             FrameStep::Turn(angle) => {
                 let ticks = angle.ticks;
-                write!(f, "{a}ROT RPL {ticks}")
+                write!(f, " {a}ROT RPL {ticks}")
             }
             FrameStep::Scale(values) => {
                 let values = factors(values);
-                write!(f, "{a}SCALE{values}")
+                write!(f, " {a}SCALE{values}")
             }
             FrameStep::Mirror(axes) => {
                 let axes = Named(axes);
-                write!(f, "{a}MIRROR{axes}")
+                write!(f, " {a}MIRROR{axes}")
             }
         }
     }
@@ -108,12 +108,28 @@ impl fmt::Display for Selected as SelectedDisplay {
     }
 }
 
+fn selects(s: Selections) -> bool {
+    s.motion.is_some()
+        || s.plane.is_some()
+        || s.settable.is_some()
+        || s.unit.is_some()
+        || s.distance.is_some()
+}
+
+// Whether a block says anything: passed-over words alone say nothing.
+fn says_any(o: Ordinary) -> bool {
+    selects(o.selections) || o.machine.is_some() || o.first.is_some() || o.ends
+}
+
 /// A block without an instruction.
 #[derive(Clone, Copy)]
 struct Plain(Ordinary);
 
 impl fmt::Display for Plain as PlainDisplay {
     fn fmt<W: fmt::Write>(&self, f: &mut fmt::Formatter<W>) -> fmt::Result {
+        if !says_any(self.0) {
+            return f.write_str(" -");
+        }
         let selected = Selected(self.0.selections);
         let machine = match self.0.machine {
             Some(_) => " G53",
@@ -121,27 +137,36 @@ impl fmt::Display for Plain as PlainDisplay {
         };
         let words = lengths(self.0.words);
         let ends = if self.0.ends { " ends" } else { "" };
-        write!(f, "block{selected}{machine}{words}{ends}")
+        write!(f, "{selected}{machine}{words}{ends}")
     }
 }
 
-/// What a right block says.
+/// What a right block says, each part after a space.
 #[derive(Clone, Copy)]
 pub struct Says(pub Block);
 
 pub impl fmt::Display for Says as SaysDisplay {
     fn fmt<W: fmt::Write>(&self, f: &mut fmt::Formatter<W>) -> fmt::Result {
         match self.0 {
-            Block::Frame { change: FrameChange::Empty, .. } => write!(f, "chain emptied"),
-            Block::Frame { change: FrameChange::Replace(step), .. } => f.write(Instruction { letter: "", step }),
-            Block::Frame { change: FrameChange::Append(step), .. } => f.write(Instruction { letter: "A", step }),
+            Block::Frame {
+                change: FrameChange::Empty,
+                ..
+            } => write!(f, " chain emptied"),
+            Block::Frame {
+                change: FrameChange::Replace(step),
+                ..
+            } => f.write(Instruction { letter: "", step }),
+            Block::Frame {
+                change: FrameChange::Append(step),
+                ..
+            } => f.write(Instruction { letter: "A", step }),
             Block::Limit { side, values, .. } => {
                 let name = match side {
                     Side::Lower => "G25",
                     Side::Upper => "G26",
                 };
                 let values = lengths(values);
-                write!(f, "{name}{values}")
+                write!(f, " {name}{values}")
             }
             Block::Ordinary(ordinary) => f.write(Plain(ordinary)),
         }

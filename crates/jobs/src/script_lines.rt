@@ -20,7 +20,7 @@ pub struct Script<'a> {
     pub checked: Option<&'a [u8]>,
 }
 
-pub fn script<'a>(heap: Global, input: &'a [u8]) -> Result<Script<'a>, AllocError> {
+pub fn read_script<'a>(heap: Global, input: &'a [u8]) -> Result<Script<'a>, AllocError> {
     let mut lines = Vec::new(heap);
     let mut reader = LineReader::new(input);
     while let Some(line) = reader.next_line() {

@@ -37,7 +37,12 @@ fn say_reading(reading: Reading, report: &mut Report) -> Result<(), AllocError> 
     Ok(())
 }
 
-fn say_reply(call: Call, reply: Reply, reading: Reading, report: &mut Report) -> Result<(), AllocError> {
+fn say_reply(
+    call: Call,
+    reply: Reply,
+    reading: Reading,
+    report: &mut Report,
+) -> Result<(), AllocError> {
     match call {
         Call::Entry { .. } => report.say("entered"),
         Call::Reset => report.say("reset"),

@@ -2,6 +2,7 @@
 ghost use mathlib.Core.Path.{_≡_};
 ghost use Prim.Native.Nat.{ℕ, _+_, _≤_, _<_};
 ghost use lib.ListN.{length, getD, drop};
+ghost use Rattle.lines.specs.Lines.{Reads};
 
 /// A line without the byte that ends it: where it begins in the text, and its number, counted from 1.
 #[derive(Clone, Copy)]
@@ -34,6 +35,18 @@ fn line_length(text: &[u8]) -> usize
     n
 }
 
+// Where the line behind one that ends at a place begins.
+fn next_start(text: &[u8], end: usize) -> usize
+    requires { ⌜ end ≤ length (now text) ⌝ }
+    ensures more { λ r. ⌜ (end < length (now (text .entry)) → r ≡ end + 1) ⌝ }
+    ensures last { λ r. ⌜ (end ≡ length (now (text .entry)) → r ≡ end) ⌝ }
+{
+    if end < text.len() {
+        return end + 1;
+    }
+    end
+}
+
 impl<'a> LineReader<'a> {
     /// A reader at the start of the text.
     pub fn new(text: &'a [u8]) -> LineReader<'a>
@@ -51,17 +64,21 @@ impl<'a> LineReader<'a> {
     /// The next line; none at the end of the text.
     pub fn next_line(&mut self) -> Option<Line<'a>>
         ensures same { λ r. ⌜ now (self .exit) .text .now ≡ now (self .entry) .text .now ⌝ }
-
+        ensures reads { λ r. ⌜ Reads (now (self .entry) .text .now) (now (self .entry) .place) (now (self .entry) .count) r (now (self .exit) .place) (now (self .exit) .count) ⌝ }
     {
         let text = self.text;
         let start = self.place;
-        if start >= text.len() {
+        if start == text.len() {
             return None;
         }
         let end = start + line_length(&text[start..]);
+        let place = next_start(text, end);
         let number = self.count + 1;
-        self.count = number;
-        self.place = if end < text.len() { end + 1 } else { end };
+        *self = LineReader {
+            text,
+            place,
+            count: number,
+        };
         Some(Line {
             bytes: &text[start..end],
             start,
