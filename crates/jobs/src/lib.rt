@@ -7,4 +7,5 @@ pub mod pile;
 pub mod report;
 pub mod says;
 pub mod script_lines;
+pub mod streams;
 pub mod worked;
