@@ -100,6 +100,19 @@ module _ (text : List ℕ) (start end : ℕ) (h : EndsAt text start end) where
 pub no-line : (text : List ℕ) (start : ℕ) → length text ≤ start → linesFrom start (drop start text) ≡ []
 no-line text start h = ap (linesFrom start) (drop-all start text h)
 
+-- where bytes are left, there is a next line, and it starts there
+first-of : (k b : ℕ) (ls : List Line) → (l : Line) × (more : List Line) × (inFront k b ls ≡ l ∷ more) × (k ≡ l .start)
+first-of k b [] = (record { start = k; bytes = b ∷ [] }, [], refl, refl)
+first-of k b (l ∷ ls) = (record { start = k; bytes = b ∷ l .bytes }, ls, refl, refl)
+
+first-by : (k b : ℕ) (bs : List ℕ) (t : Bool) → (l : Line) × (more : List Line) × (cond t (record { start = k; bytes = [] } ∷ linesFrom (k + 1) bs) (inFront k b (linesFrom (k + 1) bs)) ≡ l ∷ more) × (k ≡ l .start)
+first-by k b bs true = (record { start = k; bytes = [] }, linesFrom (k + 1) bs, refl, refl)
+first-by k b bs false = first-of k b (linesFrom (k + 1) bs)
+
+pub some-line : (text : List ℕ) (k : ℕ) → 0 < length text → (l : Line) × (more : List Line) × (linesFrom k text ≡ l ∷ more) × (k ≡ l .start)
+some-line [] k h = absurd (omega arith)
+some-line (b ∷ bs) k h = first-by k b bs (eqb b 10)
+
 -- looking for the end
 pub free-none : (text : List ℕ) (start : ℕ) → NoEnd (between start start text)
 free-none text start = subst (λ (n : ℕ). NoEnd (take n (drop start text))) zero-is tt

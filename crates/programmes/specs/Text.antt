@@ -19,7 +19,7 @@ use Rattle.shifts.specs.declared.call.Answer.the-variants.{Replied as Replies, 
 use Rattle.shifts.specs.declared.call.Seen.{Seen}
 use Rattle.shifts.specs.Calls.{Replied}
 use Rattle.shifts.specs.Law.{Law}
-use Rattle.rolls.specs.Rolls.{RollState, isFull, extended}
+use Rattle.rolls.specs.Rolls.{RollState, recordsOf, isFull, extended}
 use Rattle.programmes.specs.declared.records.MoveRecord.{MoveRecord}
 use Rattle.programmes.specs.declared.records.DeclineRecord.{DeclineRecord}
 use Rattle.programmes.specs.Lines.{Line, linesOf}
@@ -47,43 +47,40 @@ declineOf start (Replies r) = []
 declineOf start (Told t) = []
 declineOf start (Declined f) = record { start = start; fault = f } ∷ []
 
--- the records of lines and what was seen of each, in their order
-abbrev pub movesOf : List Line → List Seen → List MoveRecord
-movesOf [] rs = []
-movesOf (l ∷ ls) [] = []
-movesOf (l ∷ ls) (r ∷ rs) = moveOf (l .start) (r .answer) ++ movesOf ls rs
+-- the records that lines make, in their order, with what was seen of each
+abbrev pub madeBy : {R : Type 0} → (ℕ → Answer → List R) → List Line → List Seen → List R
+madeBy f [] rs = []
+madeBy f (l ∷ ls) [] = []
+madeBy f (l ∷ ls) (r ∷ rs) = f (l .start) (r .answer) ++ madeBy f ls rs
 
-abbrev pub declinesOf : List Line → List Seen → List DeclineRecord
-declinesOf [] rs = []
-declinesOf (l ∷ ls) [] = []
-declinesOf (l ∷ ls) (r ∷ rs) = declineOf (l .start) (r .answer) ++ declinesOf ls rs
-
--- a place is left behind more records
-abbrev pub RoomAfter : {R : Type 0} → RollState R → List R → Type 0
-RoomAfter s more = s .count + length more < length (s .places)
+-- A roll after lines were worked: their records stand behind what stood there, in order, and the places behind them are as they were.
+-- There was a place for each, and before each line one was left.
+pub record Rolled {R : Type 0} (f : ℕ → Answer → List R) (done : List Line) (seen : List Seen) (roll roll′ : RollState R) : Type 0 where
+  pub left : roll′ ≡ extended roll (madeBy f done seen)
+  pub stands : recordsOf roll′ ≡ recordsOf roll ++ madeBy f done seen
+  pub fits : roll .count + length (madeBy f done seen) ≤ length (roll .places)
+  pub room : (k : ℕ) → k < length done → roll .count + length (madeBy f (take k done) (take k seen)) < length (roll .places)
 
 -- all lines are worked, or one of the rolls is full before the next, whose start is told
 abbrev pub Stopped : List Line → RollState MoveRecord → RollState DeclineRecord → Result (Unit {0}) Fault → Type 0
 Stopped next moves declines (Ok u) = next ≡ []
 Stopped next moves declines (Err f) = (l : Line) × (ls : List Line) × (next ≡ l ∷ ls) × (f ≡ RollFull (l .start)) × ((isFull moves || isFull declines) ≡ true)
 
--- in whatever shift the translator came to stand as it does, the law holds with the blocks among its calls
-abbrev pub InAnyShift : State → List Call → List Seen → Type 0
-InAnyShift s blocks seen = (end : Meaning) (tolerance : Tolerance) (before : List Call) (opening : Reading) (earlier : List Seen) → Sound end → Tells (opened end tolerance) opening → Replied (opened end tolerance) before earlier s → Law end tolerance (before ++ blocks) opening (earlier ++ seen)
+-- whatever shift brought the translator to where it stands, the law holds of it with the blocks as its next calls, and it goes on from there
+abbrev pub InAnyShift : State → List Call → List Seen → State → Type 0
+InAnyShift s blocks seen t = (end : Meaning) (tolerance : Tolerance) (before : List Call) (opening : Reading) (earlier : List Seen) → Sound end → Tells (opened end tolerance) opening → Replied (opened end tolerance) before earlier s → Law end tolerance (before ++ blocks) opening (earlier ++ seen) × Replied (opened end tolerance) (before ++ blocks) (earlier ++ seen) t
 
 -- Lines worked one after the other: the first of them (done) as blocks of a shift, with one thing seen of each; the rest (next) is not begun.
--- The rolls are the old ones with the records of these blocks behind what stood there, and before each of them both had a place left.
 pub record LinesWorked (s : State) (lines : List Line) (moves : RollState MoveRecord) (declines : RollState DeclineRecord) (told : Result (Unit {0}) Fault) (t : State) (moves′ : RollState MoveRecord) (declines′ : RollState DeclineRecord) : Type 0 where
   pub done : List Line
   pub next : List Line
   pub seen : List Seen
   pub parted : lines ≡ done ++ next
   pub replied : Replied s (blocksOf done) seen t
-  pub moved : moves′ ≡ extended moves (movesOf done seen)
-  pub declined : declines′ ≡ extended declines (declinesOf done seen)
-  pub room : (k : ℕ) → k < length done → RoomAfter moves (movesOf (take k done) (take k seen)) × RoomAfter declines (declinesOf (take k done) (take k seen))
+  pub moved : Rolled moveOf done seen moves moves′
+  pub declined : Rolled declineOf done seen declines declines′
   pub stopped : Stopped next moves′ declines′ told
-  pub law : InAnyShift s (blocksOf done) seen
+  pub law : InAnyShift s (blocksOf done) seen t
 
 -- a text of more than 65,536 bytes gets 17, and nothing is done
 pub record TextWorked (s : State) (text : List ℕ) (moves : RollState MoveRecord) (declines : RollState DeclineRecord) (told : Result (Unit {0}) Fault) (t : State) (moves′ : RollState MoveRecord) (declines′ : RollState DeclineRecord) : Type 0 where
