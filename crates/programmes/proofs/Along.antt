@@ -33,7 +33,7 @@ use Rattle.rolls.proofs.Longer.{no-more, records-more, places-more, more-more}
 use Rattle.programmes.specs.declared.records.MoveRecord.{MoveRecord}
 use Rattle.programmes.specs.declared.records.DeclineRecord.{DeclineRecord}
 use Rattle.programmes.specs.Lines.{Line, linesFrom, linesOf, EndsAt}
-use Rattle.programmes.specs.Text.{blockOf, blocksOf, anyMoved, moveOf, declineOf, madeBy, Rolled, InAnyShift, Stopped, LinesWorked}
+use Rattle.programmes.specs.Text.{blockOf, blocksOf, anyMoved, moveOf, declineOf, madeBy, Rolled, InAnyShift, Stopped, LinesWorked, TextWorked, ShiftWorked}
 use Rattle.programmes.proofs.Lines.{next-line, no-line, some-line}
 
 -- calls after calls
@@ -247,3 +247,15 @@ along-kept {s = s} {t = t} {text = text} {start = start} {moves = moves} {declin
 
 pub full-kept : (moves moves′ : RollState MoveRecord) (declines declines′ : RollState DeclineRecord) (b : Bool) → moves′ ≡ moves → declines′ ≡ declines → b ≡ (isFull moves || isFull declines) → b ≡ true → (isFull moves′ || isFull declines′) ≡ true
 full-kept moves moves′ declines declines′ b e f told taken = (λ i. isFull (e i) || isFull (f i)) ∙ sym told ∙ taken
+
+-- a text as a whole shift
+module _ (end : Meaning) (tolerance : Tolerance) (sound : Sound end) (text : List ℕ) (moves : RollState MoveRecord) (declines : RollState DeclineRecord) (opening : Reading) (told : Result (Unit {0}) Fault) (s t : State) (moves′ : RollState MoveRecord) (declines′ : RollState DeclineRecord) where
+  from-opened : Tells (opened end tolerance) opening → TextWorked (opened end tolerance) text moves declines told t moves′ declines′ → ShiftWorked end tolerance text moves declines opening told t moves′ declines′
+  from-opened o w = record {
+    tells = o;
+    worked = w;
+    law = λ short. w .worked short .law end tolerance [] opening [] sound o (record { shown = tt; left = refl }) .0;
+  }
+
+  pub whole-shift : s ≡ opened end tolerance → Tells s opening → TextWorked s text moves declines told t moves′ declines′ → ShiftWorked end tolerance text moves declines opening told t moves′ declines′
+  whole-shift e o w = from-opened (subst (λ (z : State). Tells z opening) e o) (subst (λ (z : State). TextWorked z text moves declines told t moves′ declines′) e w)

@@ -22,7 +22,7 @@ use Rattle.shifts.specs.Law.{Law}
 use Rattle.rolls.specs.Rolls.{RollState, recordsOf, isFull, extended}
 use Rattle.programmes.specs.declared.records.MoveRecord.{MoveRecord}
 use Rattle.programmes.specs.declared.records.DeclineRecord.{DeclineRecord}
-use Rattle.programmes.specs.Lines.{Line, linesOf}
+use Rattle.programmes.specs.Lines.{Line, linesOf, Lines}
 
 -- a line's bytes are a block; where they stand in memory tells nothing
 abbrev pub blockOf : Line → Call
@@ -82,7 +82,14 @@ pub record LinesWorked (s : State) (lines : List Line) (moves : RollState MoveRe
   pub stopped : Stopped next moves′ declines′ told
   pub law : InAnyShift s (blocksOf done) seen t
 
--- a text of more than 65,536 bytes gets 17, and nothing is done
+-- a text's lines are worked; one of more than 65,536 bytes gets 17, and nothing is done
 pub record TextWorked (s : State) (text : List ℕ) (moves : RollState MoveRecord) (declines : RollState DeclineRecord) (told : Result (Unit {0}) Fault) (t : State) (moves′ : RollState MoveRecord) (declines′ : RollState DeclineRecord) : Type 0 where
-  pub long : 65536 < length text → (told ≡ Err Argument) × (t ≡ s) × (moves′ ≡ moves) × (declines′ ≡ declines)
+  pub lines : Lines 0 text (linesOf text)
   pub worked : length text ≤ 65536 → LinesWorked s (linesOf text) moves declines told t moves′ declines′
+  pub long : 65536 < length text → (told ≡ Err Argument) × (t ≡ s) × (moves′ ≡ moves) × (declines′ ≡ declines)
+
+-- a text as a whole shift over an end: the law holds at the start and after each of its blocks
+pub record ShiftWorked (end : Meaning) (tolerance : Tolerance) (text : List ℕ) (moves : RollState MoveRecord) (declines : RollState DeclineRecord) (opening : Reading) (told : Result (Unit {0}) Fault) (t : State) (moves′ : RollState MoveRecord) (declines′ : RollState DeclineRecord) : Type 0 where
+  pub tells : Tells (opened end tolerance) opening
+  pub worked : TextWorked (opened end tolerance) text moves declines told t moves′ declines′
+  pub law : (short : length text ≤ 65536) → Law end tolerance (blocksOf (worked .worked short .done)) opening (worked .worked short .seen)
