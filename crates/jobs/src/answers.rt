@@ -2,6 +2,8 @@
 use chains::chain::Chain;
 use chains::step::Step;
 use frames::image::Image;
+use programmes::records::DeclineRecord;
+use programmes::records::MoveRecord;
 use questions::question::Told;
 use std::fmt;
 use translator::reply::Reading;
@@ -41,6 +43,30 @@ pub impl fmt::Display for Declined as DeclinedDisplay {
             f,
             "declined {number} at {place} axis {axis} step {step} level {level} layer {layer}"
         )
+    }
+}
+
+/// A move record of a programme.
+#[derive(Clone, Copy)]
+pub struct MovedAt(pub MoveRecord);
+
+pub impl fmt::Display for MovedAt as MovedAtDisplay {
+    fn fmt<W: fmt::Write>(&self, f: &mut fmt::Formatter<W>) -> fmt::Result {
+        let start = self.0.start;
+        let targets = Targets(self.0.image);
+        write!(f, "byte {start} {targets}")
+    }
+}
+
+/// A decline record of a programme.
+#[derive(Clone, Copy)]
+pub struct DeclinedAt(pub DeclineRecord);
+
+pub impl fmt::Display for DeclinedAt as DeclinedAtDisplay {
+    fn fmt<W: fmt::Write>(&self, f: &mut fmt::Formatter<W>) -> fmt::Result {
+        let start = self.0.start;
+        let declined = Declined(self.0.fault);
+        write!(f, "byte {start} {declined}")
     }
 }
 

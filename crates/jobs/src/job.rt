@@ -9,6 +9,7 @@ use crate::report::Report;
 use crate::report::say_aside;
 use crate::script_lines::ScriptLine;
 use crate::script_lines::read_script;
+use crate::worked::Rest;
 use machine::count::moves::CountMachineEnd;
 use machine::scale::moves::ScaleMachineEnd;
 use std::alloc::AllocError;
@@ -47,33 +48,37 @@ fn work_section(
     first: ScriptLine,
     lines: &[ScriptLine],
     report: &mut Report,
-) -> Result<(), AllocError> {
+) -> Result<Rest, AllocError> {
     match end_call(first.call) {
         EndCall::Scale(end) => work_end(heap, end, lines, report),
         EndCall::Count(end) => work_end(heap, end, lines, report),
-        _ => Ok(()),
+        _ => Ok(Rest::Left),
     }
 }
 
-fn work_all(heap: Global, lines: &[ScriptLine], report: &mut Report) -> Result<(), AllocError> {
+fn work_all(heap: Global, lines: &[ScriptLine], report: &mut Report) -> Result<Rest, AllocError> {
     let mut at = section_length(lines);
     work_bare(&lines[..at], report)?;
     while at < lines.len() {
         let rest = &lines[at + 1..];
         let n = section_length(rest);
-        work_section(heap, lines[at], &rest[..n], report)?;
+        if let Rest::Worked = work_section(heap, lines[at], &rest[..n], report)? {
+            return Ok(Rest::Worked);
+        }
         at += 1 + n;
     }
-    Ok(())
+    Ok(Rest::Left)
 }
 
 /// Works a job script: the answers to its lines.
 pub fn run(heap: Global, input: &[u8]) -> Result<String, AllocError> {
     let script = read_script(heap, input)?;
     let mut report = Report::new(heap);
-    work_all(heap, script.lines.as_slice(), &mut report)?;
-    if let Some(text) = script.checked {
-        check(text, &mut report)?;
+    let rest = work_all(heap, script.lines.as_slice(), &mut report)?;
+    if let Rest::Left = rest {
+        if let Some(text) = script.checked {
+            check(text, &mut report)?;
+        }
     }
     Ok(report.into_text())
 }

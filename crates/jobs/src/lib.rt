@@ -4,6 +4,7 @@ pub mod check;
 pub mod convert;
 pub mod job;
 pub mod pile;
+pub mod programme;
 pub mod report;
 pub mod says;
 pub mod script_lines;

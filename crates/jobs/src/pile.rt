@@ -11,6 +11,7 @@ use crate::report::Report;
 use crate::report::say_aside;
 use crate::report::say_told;
 use crate::script_lines::ScriptLine;
+use crate::worked::Rest;
 use crate::worked::work_shift;
 use machine::area::WorkArea;
 use machine::area::layer::WorkAreaMachineEnd;
@@ -133,12 +134,12 @@ fn work_under_two<E: MachineEnd + Drop>(
     mut end: E,
     lines: &[ScriptLine],
     report: &mut Report,
-) -> Result<(), AllocError> {
+) -> Result<Rest, AllocError> {
     let next = work_lines(&mut end, lines, false, report)?;
     let worked = next.lines;
     match next.layer {
         LayerCall::New(tolerance) => work_shift(heap, end, tolerance, &lines[worked..], report),
-        _ => Ok(()),
+        _ => Ok(Rest::Left),
     }
 }
 
@@ -148,14 +149,14 @@ fn work_under_one<E: MachineEnd + Drop>(
     mut end: E,
     lines: &[ScriptLine],
     report: &mut Report,
-) -> Result<(), AllocError> {
+) -> Result<Rest, AllocError> {
     let next = work_lines(&mut end, lines, true, report)?;
     let worked = next.lines;
     let rest = &lines[worked..];
     match next.layer {
         LayerCall::Area(bounds) => work_under_two(heap, WorkArea::over(bounds, end), rest, report),
         LayerCall::New(tolerance) => work_shift(heap, end, tolerance, rest, report),
-        _ => Ok(()),
+        _ => Ok(Rest::Left),
     }
 }
 
@@ -165,7 +166,7 @@ pub fn work_end<E: MachineEnd + Drop>(
     mut end: E,
     lines: &[ScriptLine],
     report: &mut Report,
-) -> Result<(), AllocError> {
+) -> Result<Rest, AllocError> {
     report.say("end made")?;
     let next = work_lines(&mut end, lines, true, report)?;
     let worked = next.lines;
@@ -173,6 +174,6 @@ pub fn work_end<E: MachineEnd + Drop>(
     match next.layer {
         LayerCall::Area(bounds) => work_under_one(heap, WorkArea::over(bounds, end), rest, report),
         LayerCall::New(tolerance) => work_shift(heap, end, tolerance, rest, report),
-        _ => Ok(()),
+        _ => Ok(Rest::Left),
     }
 }
