@@ -1,6 +1,9 @@
 // A whole job script.
-ghost use Prim.Native.Nat.{_≤_};
-ghost use lib.ListN.{length};
+ghost use mathlib.Core.Path.{_≡_};
+ghost use mathlib.Core.Bool.{true, false};
+ghost use Prim.Native.Nat.{ℕ, _<_, _≤_};
+ghost use lib.ListN.{length, getD};
+ghost use Rattle.jobs.specs.Ends.{lineMakesEnd};
 use crate::check::check;
 use crate::convert::EndCall;
 use crate::convert::end_call;
@@ -14,7 +17,9 @@ use machine::scale::moves::ScaleMachineEnd;
 use std::alloc::AllocError;
 use std::alloc::Global;
 
-fn makes_end(line: ScriptLine) -> bool {
+fn makes_end(line: ScriptLine) -> bool
+    ensures { λ r. ⌜ r ≡ lineMakesEnd (line .entry .call) ⌝ }
+{
     match end_call(line.call) {
         EndCall::Scale(_) => true,
         EndCall::Count(_) => true,
@@ -25,6 +30,8 @@ fn makes_end(line: ScriptLine) -> bool {
 // How many lines stand before the next that makes an end.
 fn section_length(lines: &[ScriptLine]) -> usize
     ensures within { λ r. ⌜ r ≤ length (now (lines .entry)) ⌝ }
+    ensures free { λ r. ⌜ ((k : ℕ) (d : _) → k < r → lineMakesEnd (getD (now (lines .entry)) k d .call) ≡ false) ⌝ }
+    ensures stops { λ r. ⌜ ((d : _) → r < length (now (lines .entry)) → lineMakesEnd (getD (now (lines .entry)) r d .call) ≡ true) ⌝ }
 {
     let mut n = 0;
     while n < lines.len() && !makes_end(lines[n]) {
