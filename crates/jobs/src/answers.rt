@@ -1,5 +1,4 @@
 // What is written of each answer.
-use chains::chain::Chain;
 use chains::step::Step;
 use frames::image::Image;
 use programmes::records::DeclineRecord;
@@ -9,8 +8,6 @@ use std::fmt;
 use translator::reply::Reading;
 use translator::reply::Reply;
 use units::axis::Plane;
-use units::axis::Point;
-use units::fault::Decline;
 use units::fault::Fault;
 use units::fault::Layer;
 use units::quantity::Factor;

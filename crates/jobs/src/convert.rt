@@ -1,5 +1,9 @@
 // From the numbers of a line to what a call takes; out of range is 17.
 ghost use mathlib.Core.Path.{_≡_};
+ghost use mathlib.Core.Bool.{_&&_};
+ghost use lib.IntN.{pos};
+ghost use Rattle.machine.specs.Made.{MadeWhere};
+ghost use Rattle.jobs.specs.Ends.{limits-fit, written-fits, all-fit, Fitting, AllFitting, lineMakesEnd, EndMade};
 ghost use Rattle.jobs.specs.Conversions.{orArgument, toleranceAsked, questionOf, shiftCallOf};
 ghost use Rattle.units.specs.Quantities.{toleranceOf};
 use machine::bounds::Bounds;
@@ -42,18 +46,33 @@ pub fn tolerance(units: i64) -> Result<Tolerance, Fault>
     within_range(units as u64)
 }
 
-pub fn bounds(limits: Limits) -> Result<Bounds, Fault> {
+pub fn bounds(limits: Limits) -> Result<Bounds, Fault>
+    ensures { λ r. ⌜ MadeWhere (limits-fit limits) (λ b. (b .lower ≡ limits .lower) × (b .upper ≡ limits .upper)) r ⌝ }
+{
     Bounds::new(limits.lower, limits.upper)
 }
 
-fn increment(units: i64) -> Result<u32, Fault> {
+fn narrowed(units: u64) -> Result<u32, Fault>
+    ensures { λ r. ⌜ Fitting (pos units) r ⌝ }
+{
     match u32::try_from(units) {
         Ok(n) => Ok(n),
         Err(_) => Err(Fault::Argument),
     }
 }
 
-fn increments(units: Point) -> Result<Increments, Fault> {
+fn increment(units: i64) -> Result<u32, Fault>
+    ensures { λ r. ⌜ Fitting units r ⌝ }
+{
+    if units < 0 {
+        return Err(Fault::Argument);
+    }
+    narrowed(units as u64)
+}
+
+fn increments(units: Point) -> Result<Increments, Fault>
+    ensures { λ r. ⌜ AllFitting units r ⌝ }
+{
     Ok(Increments {
         x: increment(units.x)?,
         y: increment(units.y)?,
@@ -61,18 +80,34 @@ fn increments(units: Point) -> Result<Increments, Fault> {
     })
 }
 
-fn scale_end(units: i64, limits: Limits) -> Result<ScaleEnd, Fault> {
-    let bounds = bounds(limits)?;
-    ScaleEnd::new(increment(units)?, bounds)
+fn scale_end(units: i64, limits: Limits) -> Result<ScaleEnd, Fault>
+    ensures { λ r. ⌜ MadeWhere (limits-fit limits && written-fits units) (λ _. Unit {0}) r ⌝ }
+{
+    match bounds(limits) {
+        Ok(bounds) => match increment(units) {
+            Ok(n) => ScaleEnd::new(n, bounds),
+            Err(fault) => Err(fault),
+        },
+        Err(fault) => Err(fault),
+    }
 }
 
-fn count_end(units: Point, limits: Limits) -> Result<CountEnd, Fault> {
-    let bounds = bounds(limits)?;
-    CountEnd::new(increments(units)?, bounds)
+fn count_end(units: Point, limits: Limits) -> Result<CountEnd, Fault>
+    ensures { λ r. ⌜ MadeWhere (limits-fit limits && all-fit units) (λ _. Unit {0}) r ⌝ }
+{
+    match bounds(limits) {
+        Ok(bounds) => match increments(units) {
+            Ok(n) => CountEnd::new(n, bounds),
+            Err(fault) => Err(fault),
+        },
+        Err(fault) => Err(fault),
+    }
 }
 
 /// The end that a line makes.
-pub fn end_call(call: Option<Call>) -> EndCall {
+pub fn end_call(call: Option<Call>) -> EndCall
+    ensures { λ r. ⌜ EndMade (lineMakesEnd (call .entry)) r ⌝ }
+{
     match call {
         Some(Call::ScaleEnd { increment, limits }) => match scale_end(increment, limits) {
             Ok(end) => EndCall::Scale(end),

@@ -1,6 +1,8 @@
 // A whole job script.
+ghost use mathlib.Core.Path.{_≡_};
 ghost use Prim.Native.Nat.{_≤_};
 ghost use lib.ListN.{length};
+ghost use Rattle.jobs.specs.Ends.{lineMakesEnd};
 use crate::check::check;
 use crate::convert::EndCall;
 use crate::convert::end_call;
@@ -15,7 +17,9 @@ use machine::scale::moves::ScaleMachineEnd;
 use std::alloc::AllocError;
 use std::alloc::Global;
 
-fn makes_end(line: ScriptLine) -> bool {
+fn makes_end(line: ScriptLine) -> bool
+    ensures { λ r. ⌜ r ≡ lineMakesEnd (line .entry .call) ⌝ }
+{
     match end_call(line.call) {
         EndCall::Scale(_) => true,
         EndCall::Count(_) => true,

@@ -1,5 +1,4 @@
 // What is written of a right block.
-use crate::answers::ByAxis;
 use crate::answers::ByAxisDisplay;
 use crate::answers::Named;
 use crate::answers::NamedDisplay;
