@@ -1,8 +1,8 @@
 // The calls of a roll. Its questions take it for writing too, and change nothing.
 ghost use mathlib.Core.Path.{_≡_};
 ghost use denote.Ref.{name};
-ghost use Prim.Native.Nat.{ℕ, _<_};
-ghost use lib.ListN.{length};
+ghost use Prim.Native.Nat.{ℕ, _+_, _<_};
+ghost use lib.ListN.{length, set};
 ghost use Rattle.std.specs.declared.result.Result.the-variants.{Ok, Err};
 ghost use Rattle.units.specs.declared.fault.Fault.the-variants.{Argument};
 ghost use Rattle.rolls.specs.Rolls.{RollState, rollOf, recordsOf, isFull, roomFor, appended, Filed, nthOf, firstFrom, First};
@@ -34,7 +34,17 @@ impl<'a, R: Copy> Roll<'a, R> {
         ensures told { λ r. ⌜ r ≡ isFull (rollOf (now (self .entry))) ⌝ }
         ensures same { λ _. ⌜ now (self .exit) ≡ now (self .entry) ⌝ }
     {
-        self.count >= self.places.len()
+        self.places.len() <= self.count
+    }
+
+    // Writes the next free place.
+    fn put(&mut self, r: R)
+        requires { ⌜ now self .count < length (now (now self .places)) ⌝ }
+        ensures left { λ _. ⌜ rollOf (now (self .exit)) ≡ record { places = set (now (now (self .entry) .places)) (now (self .entry) .count) r; count = now (self .entry) .count + 1 } ⌝ }
+        ensures lent { λ _. ⌜ name (now (self .exit) .places) ≡ name (now (self .entry) .places) ⌝ }
+    {
+        self.places[self.count] = r;
+        self.count += 1;
     }
 
     /// The nth record, from 0; 17 past the count.
@@ -61,8 +71,7 @@ impl<'a, R: Record + Copy> Roll<'a, R> {
         if self.count >= self.places.len() {
             return Err(Fault::RollFull { start: r.start() });
         }
-        self.places[self.count] = r;
-        self.count += 1;
+        self.put(r);
         Ok(())
     }
 

@@ -12,10 +12,10 @@ pub loop-i-holds : need.loop-i-holds
 loop-i-holds c = free-none (c .args .text .now) (c .args .start)
 
 pub loop-i-again : need.loop-i-again
-loop-i-again c = free-on (c .args .text .now) (c .args .start) (c .loop-i .i) (search needs) (search needs) (c .loop-i .inv) (c .if-text-i-eq-LINE-FEED .left)
+loop-i-again c = free-on (c .args .text .now) (c .args .start) (c .loop-i .i) (search needs) (search needs) (c .loop-i .inv) (search needs)
 
 pub returns-then-text-i-eq-LINE-FEED : need.returns-then-text-i-eq-LINE-FEED
-returns-then-text-i-eq-LINE-FEED c = record { from = search needs; upto = search needs; free = c .loop-i .inv; ended = λ _. c .if-text-i-eq-LINE-FEED .taken }
+returns-then-text-i-eq-LINE-FEED c = record { from = search needs; upto = search needs; free = c .loop-i .inv; ended = λ _. search needs }
 
 pub returns : need.returns
 returns c =
