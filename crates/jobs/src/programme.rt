@@ -1,8 +1,8 @@
 // A whole programme text, and what its rolls then hold.
 use crate::answers::Declined;
-use crate::answers::DeclinedDisplay;
 use crate::answers::DeclinedAt;
 use crate::answers::DeclinedAtDisplay;
+use crate::answers::DeclinedDisplay;
 use crate::answers::MovedAt;
 use crate::answers::MovedAtDisplay;
 use crate::report::Report;
@@ -21,7 +21,11 @@ use units::fault::Fault;
 // A text has no more lines than bytes, so a roll needs no more places than that.
 fn room(capacity: u64, text: &[u8]) -> usize {
     let places = capacity as usize;
-    if places < text.len() { places } else { text.len() }
+    if places < text.len() {
+        places
+    } else {
+        text.len()
+    }
 }
 
 fn say_one(
@@ -85,13 +89,12 @@ pub fn work_programme<E: MachineEnd>(
         spread: [0, 0, 0],
     };
     let mut move_places = vec![in heap; MoveRecord { start: 0, image }; room(rolls.moves, text)]?;
-    let mut decline_places = vec![in heap; DeclineRecord { start: 0, fault: Fault::Argument }; room(rolls.declines, text)]?;
-    let Ok(mut moves) = Roll::over(move_places.as_mut_slice(), 0) else {
-        return Ok(());
-    };
-    let Ok(mut declines) = Roll::over(decline_places.as_mut_slice(), 0) else {
-        return Ok(());
-    };
+    let mut decline_places = vec![in heap; DeclineRecord {
+        start: 0,
+        fault: Fault::Argument
+    }; room(rolls.declines, text)]?;
+    let mut moves = Roll::empty(move_places.as_mut_slice());
+    let mut declines = Roll::empty(decline_places.as_mut_slice());
     let told = work_text(translator, text, &mut moves, &mut declines);
     say_records(&mut moves, &mut declines, report)?;
     match told {

@@ -17,8 +17,8 @@ use crate::report::Report;
 use crate::report::say_aside;
 use crate::script_lines::ScriptLine;
 use machine::end::MachineEnd;
-use shifts::call::Answer;
 use script::call::Call;
+use shifts::call::Answer;
 use shifts::call::Call as ShiftCall;
 use shifts::call::Seen;
 use shifts::shift::shift;
@@ -127,7 +127,8 @@ pub fn work_shift<E: MachineEnd + Drop>(
     let n = calls_length(lines);
     let before = &lines[..n];
     let calls = calls_of(heap, before)?;
-    let worked = shift(heap, end, tolerance, calls.as_slice())?;
+    let row = Vec::with_capacity(heap, calls.len())?;
+    let worked = shift(end, tolerance, calls.as_slice(), row)?;
     say_all(before, worked.seen.as_slice(), report)?;
     if n < lines.len() {
         let line = lines[n];

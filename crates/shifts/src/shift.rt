@@ -2,7 +2,11 @@
 ghost use mathlib.Core.Path.{_≡_};
 ghost use mathlib.Core.List.{List, [], _∷_, _++_};
 ghost use Rattle.std.specs.Vec.{made};
-ghost use Rattle.std.specs.Of.Vec.{vec-items};
+ghost use mathlib.Core.Bool.{true};
+ghost use Prim.Native.Nat.{_≤_};
+ghost use lib.ListN.{length};
+ghost use Rattle.std.specs.Of.Vec.{vec-items, vec-cap};
+ghost use Rattle.std.specs.Results.{isOk};
 ghost use Rattle.translator.specs.State.{stateOf, opened, Tells};
 ghost use Rattle.shifts.specs.Calls.{answerOf, toldAnswer, answerTo, leftAfter, Shown, Replied};
 ghost use Rattle.shifts.specs.Law.{Law};
@@ -14,7 +18,6 @@ use machine::end::MachineEnd;
 use questions::question::Told;
 use questions::question::ask;
 use std::alloc::AllocError;
-use std::alloc::Global;
 use translator::reply::Reading;
 use translator::reply::Reply;
 use translator::translator::Translator;
@@ -70,39 +73,47 @@ pub fn make_call<E: MachineEnd>(translator: &mut Translator<E>, call: &Call) -> 
     Seen { answer, reading }
 }
 
-// Makes the calls in turn.
+// Makes the calls in turn; fails only where the row has fewer places than there are calls and finds no more memory.
 fn work<E: MachineEnd>(
     translator: &mut Translator<E>,
     calls: &[Call],
-    heap: Global,
+    row: Vec<Seen>,
 ) -> Result<Vec<Seen>, AllocError>
-    ensures { λ r. ⌜ made r (λ seen. Replied (stateOf meaning (now (translator .entry))) (now (calls .entry)) (vec-items seen) (stateOf meaning (now (translator .exit)))) ⌝ }
+    ensures replies { λ r. ⌜ made r (λ seen. Replied (stateOf meaning (now (translator .entry))) (now (calls .entry)) (vec-items seen) (stateOf meaning (now (translator .exit)))) ⌝ }
+    ensures room { λ r. ⌜ (length (now (calls .entry)) ≤ vec-cap row → isOk r ≡ true) ⌝ }
 {
-    let mut seen = Vec::new(heap);
+    let mut seen = row;
+    seen.clear();
     for i in 0..calls.len() {
         let next = make_call(translator, &calls[i]);
-        seen.push(next)?;
+        if seen.push(next).is_err() {
+            return Err(AllocError);
+        }
     }
     Ok(seen)
 }
 
-/// A whole shift over an end: what was told at the start and after each call. The only failure is want of memory for the list.
+/// A whole shift over an end: what was told at the start and after each call. What is seen goes into the row, whose own items are
+/// let go; where it has a place for each call, the shift cannot fail.
 pub fn shift<E: MachineEnd + Drop>(
-    heap: Global,
     end: E,
     tolerance: Tolerance,
     calls: &[Call],
+    row: Vec<Seen>,
 ) -> Result<Worked<E>, AllocError>
+    ensures room { λ r. ⌜ (length (now (calls .entry)) ≤ vec-cap row → isOk r ≡ true) ⌝ }
     ensures opening { λ r. ⌜ made r (λ w. Tells (opened (meaning end) tolerance) (w .opening)) ⌝ }
     ensures replies { λ r. ⌜ made r (λ w. Replied (opened (meaning end) tolerance) (now (calls .entry)) (vec-items (w .seen)) (stateOf meaning (w .translator))) ⌝ }
     ensures law { λ r. ⌜ made r (λ w. Law (meaning end) tolerance (now (calls .entry)) (w .opening) (vec-items (w .seen))) ⌝ }
 {
     let mut translator = Translator::new(end, tolerance);
     let opening = translator.read();
-    let seen = work(&mut translator, calls, heap)?;
-    Ok(Worked {
-        translator,
-        opening,
-        seen,
-    })
+    match work(&mut translator, calls, row) {
+        Ok(seen) => Ok(Worked {
+            translator,
+            opening,
+            seen,
+        }),
+        Err(error) => Err(error),
+    }
 }
