@@ -48,6 +48,13 @@ module _ {R : Type 0} where
     pub full : length (s .places) ≤ s .count → recordsOf t ≡ recordsOf s
     pub places : length (t .places) ≡ length (s .places)
 
+  -- the first places, as many as told, hold records; 17 where there are fewer places
+  abbrev pub resumed : RollState R → ℕ → RollState R
+  resumed s count = cond (leb count (length (s .places))) (record { places = s .places; count = count }) s
+
+  abbrev pub resumeTold : RollState R → ℕ → Result (Unit {0}) Fault
+  resumeTold s count = cond (leb count (length (s .places))) (Ok tt) (Err Argument)
+
   -- the one at n, from 0
   abbrev pub nthOf : List R → ℕ → Result R Fault
   nthOf [] n = Err Argument

@@ -3,22 +3,31 @@ ghost use mathlib.Core.Path.{_≡_};
 ghost use denote.Ref.{name};
 ghost use Prim.Native.Nat.{ℕ, _+_, _<_};
 ghost use lib.ListN.{length, set};
-ghost use Rattle.std.specs.declared.result.Result.the-variants.{Ok, Err};
-ghost use Rattle.units.specs.declared.fault.Fault.the-variants.{Argument};
-ghost use Rattle.rolls.specs.Rolls.{RollState, rollOf, recordsOf, isFull, roomFor, appended, Filed, nthOf, firstFrom, First};
+ghost use Rattle.rolls.specs.Rolls.{RollState, rollOf, recordsOf, isFull, roomFor, appended, Filed, resumeTold, resumed, nthOf, firstFrom, First};
 use super::Roll;
 use crate::record::Record;
 use units::fault::Fault;
 
 impl<'a, R: Copy> Roll<'a, R> {
-    /// A roll over places of which the first `count` hold records; 17 where there are fewer places.
-    pub fn over(places: &'a mut [R], count: usize) -> Result<Roll<'a, R>, Fault>
-        ensures { λ r. ⌜ elim r [ Ok roll ↦ (rollOf roll ≡ record { places = now (places .entry); count = count }) × (name (roll .places) ≡ name (places .entry)) | Err f ↦ (f ≡ Argument) × (length (now (places .entry)) < count) ] ⌝ }
+    /// A roll without records over the caller's places.
+    pub fn new(places: &'a mut [R]) -> Roll<'a, R>
+        ensures empty { λ r. ⌜ rollOf r ≡ record { places = now (places .entry); count = 0 } ⌝ }
+        ensures lent { λ r. ⌜ name (r .places) ≡ name (places .entry) ⌝ }
     {
-        if count > places.len() {
+        Roll { places, count: 0 }
+    }
+
+    /// Takes the first places, as many as told, for records that stand there already; 17 where there are fewer places.
+    pub fn resume(&mut self, count: usize) -> Result<(), Fault>
+        ensures told { λ r. ⌜ r ≡ resumeTold (rollOf (now (self .entry))) count ⌝ }
+        ensures left { λ _. ⌜ rollOf (now (self .exit)) ≡ resumed (rollOf (now (self .entry))) count ⌝ }
+        ensures lent { λ _. ⌜ name (now (self .exit) .places) ≡ name (now (self .entry) .places) ⌝ }
+    {
+        if count > self.places.len() {
             return Err(Fault::Argument);
         }
-        Ok(Roll { places, count })
+        self.count = count;
+        Ok(())
     }
 
     /// A roll of no records over places.
