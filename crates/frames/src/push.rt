@@ -118,7 +118,8 @@ fn settable_step(offset: [Length; 3]) -> Step
     Step::Offset([Some(offset[0]), Some(offset[1]), Some(offset[2])])
 }
 
-fn start(values: [Length; 3]) -> Image
+/// The workpiece values themselves, with spreads of 0.
+pub fn unpushed(values: [Length; 3]) -> Image
     ensures { λ r. ⌜ r ≡ started values ⌝ }
 {
     Image {
@@ -140,7 +141,7 @@ pub fn push(
     ensures sound { λ r. ⌜ made r (Sound (stepsOf (now (chain .entry))) moved offset values) ⌝ }
     ensures limited { λ r. ⌜ made r (Limited moved (tolerance .units) values) ⌝ }
 {
-    let mut p = start(values);
+    let mut p = unpushed(values);
     for i in (0..chain.count).rev() {
         match step_on(step_number(i), moved, tolerance, &chain.steps[i], p) {
             Ok(q) => p = q,

@@ -47,7 +47,7 @@ use Rattle.workpiece.specs.Moves.{planned, plannedBy, workpiecePlan, machinePla
 use Rattle.workpiece.specs.Force.{machineOnly}
 use Rattle.workpiece.specs.Places.{allOpen}
 use Rattle.workpiece.specs.Selects.{selected}
-use Rattle.workpiece.specs.Plans.{placed, unlessAxis, imageIn, onImage, onPlaced, reckoned, valuesOr, openAxis, farAxis, straight, keptImage, planOf, namedBy, movedIn, standings}
+use Rattle.workpiece.specs.Plans.{placed, unlessAxis, imageIn, onImage, onPlaced, reckoned, valuesOr, openAxis, farAxis, keptImage, planOf, namedBy, movedIn, standings}
 use Rattle.workpiece.specs.Settable.{frameNumber, offsetOf}
 use Rattle.workpiece.specs.Setup.{SetupState}
 use Rattle.translator.specs.declared.reply.Reply.{Reply}
@@ -139,7 +139,7 @@ on-image-other m vs old (Ok new) f h e = not-ok f _ (sym e)
 on-image-other m vs old (Err g) f h e = other-as f g (sym e) (h g refl)
 
 on-placed-other : (c : InForce) (ss : List Step) (fs : List SettableFrame) (tol : Tolerance) (m : List Bool) (old : Image) (r : Result (List (Option Length)) Fault) (f : Fault) → ((g : Fault) → r ≡ Err g → Other g) → onPlaced c ss fs tol m old r ≡ Err f → Other f
-on-placed-other c ss fs tol m old (Ok vs) f h e = on-image-other m vs old (imageIn c ss fs tol m (valuesOr vs)) f (λ g k. image-other (c .chained) ss m (tol .units) (offsetOf fs (frameNumber (c .settable))) (valuesOr vs) (straight (valuesOr vs)) g k) e
+on-placed-other c ss fs tol m old (Ok vs) f h e = on-image-other m vs old (imageIn c ss fs tol m (valuesOr vs)) f (λ g k. image-other (c .chained) ss m (tol .units) (offsetOf fs (frameNumber (c .settable))) (valuesOr vs) (started (valuesOr vs)) g k) e
 on-placed-other c ss fs tol m old (Err g) f h e = other-as f g (sym e) (h g refl)
 
 reckoned-other : (c : InForce) (ss : List Step) (fs : List SettableFrame) (tol : Tolerance) (d : _) (ws vs : List (Option Length)) (old : Image) (f : Fault) → reckoned c ss fs tol d ws vs old ≡ Err f → Other f

@@ -32,7 +32,7 @@ use Rattle.chains.specs.Steps.{firstOf, secondOf}
 use Rattle.chains.proofs.Moves.{moved-axes}
 use Rattle.frames.specs.declared.image.Image.{Image}
 use Rattle.frames.specs.Exact.{Exact, exactAt, exactOffset, exactScale, exactThrough, exactValues, exactImage, firstImage, secondImage}
-use Rattle.frames.specs.Pushing.{coordinate, spreadOf, pushed}
+use Rattle.frames.specs.Pushing.{coordinate, spreadOf, started, pushed}
 use Rattle.frames.specs.Theorems.{Sound}
 use Rattle.frames.proofs.Whole.{pushed-sound}
 use Rattle.reader.specs.declared.functions.Distance.{Distance}
@@ -44,7 +44,7 @@ use Rattle.workpiece.specs.Force.{machineOnly}
 use Rattle.workpiece.specs.Modes.{isIncremental}
 use Rattle.workpiece.specs.Moves.{workpiecePlan, machinePlan, openedPlan, plannedBy, moved}
 use Rattle.workpiece.specs.Places.{allOpen, standing, placedAt, unitsOf}
-use Rattle.workpiece.specs.Plans.{namedBy, movedIn, standings, isFar, lengthOr, valuesOr, straight, imageIn, keptImage, planOf, openingAll, reckoned}
+use Rattle.workpiece.specs.Plans.{namedBy, movedIn, standings, isFar, lengthOr, valuesOr, imageIn, keptImage, planOf, openingAll, reckoned}
 use Rattle.workpiece.specs.Selects.{selected}
 use Rattle.workpiece.specs.Settable.{frameNumber, offsetOf}
 use Rattle.workpiece.specs.Setup.{SetupState}
@@ -124,7 +124,7 @@ module _ {inc : Axis → ℕ} {q : Plain} {s : State} (f : Follows inc q s) (o :
 
   sound-of : (vs : List (Option Length)) (m : List Bool) (new : Image) → imageIn (s .setup .force) (s .setup .steps) (s .setup .records) (s .setup .tolerance) m (valuesOr vs) ≡ Ok new → Sound (s .setup .steps) m (offsetOf (s .setup .records) (frameNumber (s .setup .force .settable))) (valuesOr vs) new
   sound-of vs m new e =
-      pushed-sound (s .setup .steps) m (s .setup .tolerance .units) (offsetOf (s .setup .records) (frameNumber (s .setup .force .settable))) (valuesOr vs) (Ok new) (sym e ∙ chain-on (pushed (s .setup .steps) m (s .setup .tolerance .units) (offsetOf (s .setup .records) (frameNumber (s .setup .force .settable))) (valuesOr vs)) (Ok (straight (valuesOr vs))))
+      pushed-sound (s .setup .steps) m (s .setup .tolerance .units) (offsetOf (s .setup .records) (frameNumber (s .setup .force .settable))) (valuesOr vs) (Ok new) (sym e ∙ chain-on (pushed (s .setup .steps) m (s .setup .tolerance .units) (offsetOf (s .setup .records) (frameNumber (s .setup .force .settable))) (valuesOr vs)) (Ok (started (valuesOr vs))))
 
   pub image-so : (p : Plan) → reckoned (s .setup .force) (s .setup .steps) (s .setup .records) (s .setup .tolerance) (s .setup .modes .distance) (o .words) (s .setup .values) (s .setup .image) ≡ Ok p → Image-so p
   image-so p e =
@@ -208,8 +208,8 @@ module _ {inc : Axis → ℕ} {q : Plain} {s : State} (f : Follows inc q s) (o :
     all : Parts machineOnly (s .setup .steps) (s .setup .records) (s .setup .tolerance) (namedBy (o .words)) (standings (s .setup .modes .distance) (o .words) allOpen) (s .setup .image) (two .0)
     all = parts machineOnly (s .setup .steps) (s .setup .records) (s .setup .tolerance) (s .setup .modes .distance) (o .words) allOpen (s .setup .image) (two .0) (two .1)
 
-    straight-so : straight (valuesOr (all .values)) ≡ all .image
-    straight-so = ok-only (straight (valuesOr (all .values))) (all .image) (all .pushed-so)
+    values-so : started (valuesOr (all .values)) ≡ all .image
+    values-so = ok-only (started (valuesOr (all .values))) (all .image) (all .pushed-so)
 
     accepted-so : Accepted (namedBy (o .words)) (standings (s .setup .modes .distance) (o .words) allOpen) (all .values)
     accepted-so = accepted-values (namedBy (o .words)) (standings (s .setup .modes .distance) (o .words) allOpen) (all .values) (all .placed-so)
@@ -217,11 +217,11 @@ module _ {inc : Axis → ℕ} {q : Plain} {s : State} (f : Follows inc q s) (o :
     word-near : (a : ℕ) → a < 3 → getD (standings (s .setup .modes .distance) (o .words) allOpen) a None ≡ standing (s .setup .modes .distance) (getD (o .words) a None) None → Within (cond (isSome (getD (o .words) a None)) (lengthOr (getD (all .values) a None) .units) (coordinate (s .setup .image) a)) (wordOr (wordAt o a) (q .exact a)) (cond (isSome (getD (o .words) a None)) 0 (spreadOf (s .setup .image) a))
     word-near a h k = machine-near (s .setup .modes .distance) (getD (o .words) a None) (getD (all .values) a None) (coordinate (s .setup .image) a) (spreadOf (s .setup .image) a) (q .exact a) (one .0) (accepted-so .are a h ∙ ap placedAt k) (f .exact a h)
 
-    straight-near : (a : ℕ) → a < 3 → Within (coordinate (keptImage (namedBy (o .words)) (straight (valuesOr (all .values))) (s .setup .image)) a) (machineMove q o .exact a) (spreadOf (keptImage (namedBy (o .words)) (straight (valuesOr (all .values))) (s .setup .image)) a)
-    straight-near = three _ (word-near 0 (lit< tt) refl) (word-near 1 (lit< tt) refl) (word-near 2 (lit< tt) refl)
+    words-near : (a : ℕ) → a < 3 → Within (coordinate (keptImage (namedBy (o .words)) (started (valuesOr (all .values))) (s .setup .image)) a) (machineMove q o .exact a) (spreadOf (keptImage (namedBy (o .words)) (started (valuesOr (all .values))) (s .setup .image)) a)
+    words-near = three _ (word-near 0 (lit< tt) refl) (word-near 1 (lit< tt) refl) (word-near 2 (lit< tt) refl)
 
-    image-is : keptImage (namedBy (o .words)) (straight (valuesOr (all .values))) (s .setup .image) ≡ p .image
-    image-is = ap (λ (i : Image). keptImage (namedBy (o .words)) i (s .setup .image)) straight-so ∙ ap (λ (z : Plan). z .image) (all .made-so) ∙ ap (λ (z : Plan). z .image) (two .2)
+    image-is : keptImage (namedBy (o .words)) (started (valuesOr (all .values))) (s .setup .image) ≡ p .image
+    image-is = ap (λ (i : Image). keptImage (namedBy (o .words)) i (s .setup .image)) values-so ∙ ap (λ (z : Plan). z .image) (all .made-so) ∙ ap (λ (z : Plan). z .image) (two .2)
 
     values-are : allOpen ≡ p .values
     values-are = ap (λ (z : Plan). z .values) (two .2)
@@ -230,5 +230,5 @@ module _ {inc : Axis → ℕ} {q : Plain} {s : State} (f : Follows inc q s) (o :
     machine-follows r =
         taken-follows f (λ a. None) (machineMove q o .exact) (p .values) (p .image) u r
         (subst (λ (vs : List (Option Length)). (a : ℕ) → a < 3 → None ≡ unitsOf (getD vs a None)) values-are (three _ refl refl refl))
-        (subst (λ (i : Image). (a : ℕ) → a < 3 → Within (coordinate i a) (machineMove q o .exact a) (spreadOf i a)) image-is straight-near)
+        (subst (λ (i : Image). (a : ℕ) → a < 3 → Within (coordinate i a) (machineMove q o .exact a) (spreadOf i a)) image-is words-near)
         (λ a h. word-positive (wordAt o a) (q .exact a) (f .positive a h))

@@ -21,7 +21,7 @@ use Rattle.reader.specs.declared.functions.Distance.{Distance}
 use Rattle.chains.specs.declared.step.Step.{Step}
 use Rattle.chains.specs.Joined.{movedAxes}
 use Rattle.frames.specs.declared.image.Image.{Image}
-use Rattle.frames.specs.Pushing.{coordinate, spreadOf, pushed}
+use Rattle.frames.specs.Pushing.{coordinate, spreadOf, started, pushed}
 use Rattle.workpiece.specs.declared.force.InForce.{InForce}
 use Rattle.workpiece.specs.declared.plan.Plan.{Plan}
 use Rattle.workpiece.specs.declared.settable.SettableFrame.{SettableFrame}
@@ -76,16 +76,9 @@ lengthOr (Some l) = l
 abbrev pub valuesOr : List (Option Length) → List Length
 valuesOr vs = lengthOr (getD vs 0 None) ∷ lengthOr (getD vs 1 None) ∷ lengthOr (getD vs 2 None) ∷ []
 
--- the values themselves
-abbrev pub straight : List Length → Image
-straight vs = record {
-  at = getD vs 0 zeroLength .units ∷ getD vs 1 zeroLength .units ∷ getD vs 2 zeroLength .units ∷ [];
-  spread = 0 ∷ 0 ∷ 0 ∷ [];
-}
-
--- through the chain and the settable frame in force; without them, straight
+-- through the chain and the settable frame in force; without them, the values themselves
 abbrev pub imageIn : InForce → List Step → List SettableFrame → Tolerance → List Bool → List Length → Result Image Fault
-imageIn f steps fs tol m vs = cond (f .chained) (pushed steps m (tol .units) (offsetOf fs (frameNumber (f .settable))) vs) (Ok (straight vs))
+imageIn f steps fs tol m vs = cond (f .chained) (pushed steps m (tol .units) (offsetOf fs (frameNumber (f .settable))) vs) (Ok (started vs))
 
 abbrev pub keptAt : Bool → ℤ → ℤ → ℤ
 keptAt moved new old = cond moved new old

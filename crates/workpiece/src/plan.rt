@@ -2,7 +2,7 @@
 ghost use mathlib.Core.Path.{_≡_};
 ghost use Rattle.chains.specs.Chains.{stepsOf};
 ghost use Rattle.workpiece.specs.Settable.{recordsOf};
-ghost use Rattle.workpiece.specs.Plans.{namedBy, movedIn, standings, isOpen, isFar, firstOf, placed as placedBy, lengthOr, valuesOr, straight, imageIn, keptAt, keptSpread, keptImage, reckoned, openingAll};
+ghost use Rattle.workpiece.specs.Plans.{namedBy, movedIn, standings, isOpen, isFar, firstOf, placed as placedBy, lengthOr, valuesOr, imageIn, keptAt, keptSpread, keptImage, reckoned, openingAll};
 use crate::force::InForce;
 use crate::places::all_open;
 use crate::places::placed_at;
@@ -11,6 +11,7 @@ use crate::setup::Frames;
 use blocks::types::Distance;
 use frames::image::Image;
 use frames::push::push;
+use frames::push::unpushed;
 use units::axis::Axis;
 use units::fault::Fault;
 use units::quantity::Length;
@@ -132,16 +133,6 @@ fn values_or(values: [Option<Length>; 3]) -> [Length; 3]
     ]
 }
 
-// The values themselves, exact.
-fn straight_image(values: [Length; 3]) -> Image
-    ensures { λ r. ⌜ r ≡ straight values ⌝ }
-{
-    Image {
-        at: [values[0].units, values[1].units, values[2].units],
-        spread: [0, 0, 0],
-    }
-}
-
 fn kept_at(moved: bool, new: i64, old: i64) -> i64
     ensures { λ r. ⌜ r ≡ keptAt moved new old ⌝ }
 {
@@ -199,7 +190,7 @@ impl Frames {
                 self.tolerance,
             );
         }
-        Ok(straight_image(values))
+        Ok(unpushed(values))
     }
 
     /// The plan of a block's axis words under what is in force; 12, 13 and 14 in their order.

@@ -11,30 +11,30 @@ use Rattle.frames.proofs.push.push.Needs as need
 pub loop-i-holds : need.loop-i-holds
 loop-i-holds c =
     let h : c .args .chain .now .count ≤ length (c .args .chain .now .steps) = search needs in
-    push-start (c .args .chain .now .steps) (c .args .chain .now .count) (c .args .moved) (c .args .tolerance .units) (c .start-p .result) h (c .args .chain .now .count + 1)
+    push-start (c .args .chain .now .steps) (c .args .chain .now .count) (c .args .moved) (c .args .tolerance .units) (c .unpushed-p .result) h (c .args .chain .now .count + 1)
 
 pub step-on-requires : need.step-on-requires
 step-on-requires c κs =
     let h : c .args .chain .now .count ≤ length (c .args .chain .now .steps) = search needs in
-    loop-bounded (c .args .chain .now .steps) (c .args .chain .now .count) (c .args .moved) (c .args .tolerance .units) (c .args .offset) (c .args .values) (c .start-p .result) h (c .start-p .ensures) (c .loop-i .i) (c .loop-i .p) (c .args .tolerance .most) (c .loop-i .inv)
+    loop-bounded (c .args .chain .now .steps) (c .args .chain .now .count) (c .args .moved) (c .args .tolerance .units) (c .args .offset) (c .args .values) (c .unpushed-p .result) h (c .unpushed-p .ensures) (c .loop-i .i) (c .loop-i .p) (c .args .tolerance .most) (c .loop-i .inv)
 
 pub loop-i-again : need.loop-i-again
 loop-i-again c =
     let h : c .args .chain .now .count ≤ length (c .args .chain .now .steps) = search needs in
-    loop-next (c .args .chain .now .steps) (c .args .chain .now .count) (c .args .moved) (c .args .tolerance .units) (c .args .offset) (c .args .values) (c .start-p .result) h (c .start-p .ensures) (c .loop-i .i) (c .step-number .result) (c .loop-i .p) (c .in-Ok .q) _ (c .step-number .ensures) (c .loop-i-test .taken) (c .loop-i .kept .i) (c .loop-i .inv) (c .in-Ok .ensures tt)
+    loop-next (c .args .chain .now .steps) (c .args .chain .now .count) (c .args .moved) (c .args .tolerance .units) (c .args .offset) (c .args .values) (c .unpushed-p .result) h (c .unpushed-p .ensures) (c .loop-i .i) (c .step-number .result) (c .loop-i .p) (c .in-Ok .q) _ (c .step-number .ensures) (c .loop-i-test .taken) (c .loop-i .kept .i) (c .loop-i .inv) (c .in-Ok .ensures tt)
 
 pub returns-in-Err : need.returns-in-Err
 returns-in-Err c =
     let h : c .args .chain .now .count ≤ length (c .args .chain .now .steps) = search needs in
-    record { told = loop-refused (c .args .chain .now .steps) (c .args .chain .now .count) (c .args .moved) (c .args .tolerance .units) (c .args .offset) (c .args .values) (c .start-p .result) h (c .start-p .ensures) (c .loop-i .i) (c .step-number .result) (c .loop-i .p) _ (c .in-Err .fault) (c .step-number .ensures) (c .loop-i-test .taken) (c .loop-i .kept .i) (c .loop-i .inv) (c .in-Err .ensures tt); sound = tt; limited = tt }
+    record { told = loop-refused (c .args .chain .now .steps) (c .args .chain .now .count) (c .args .moved) (c .args .tolerance .units) (c .args .offset) (c .args .values) (c .unpushed-p .result) h (c .unpushed-p .ensures) (c .loop-i .i) (c .step-number .result) (c .loop-i .p) _ (c .in-Err .fault) (c .step-number .ensures) (c .loop-i-test .taken) (c .loop-i .kept .i) (c .loop-i .inv) (c .in-Err .ensures tt); sound = tt; limited = tt }
 
 pub step-on-requires-2 : need.step-on-requires-2
 step-on-requires-2 c κs =
     let h : c .args .chain .now .count ≤ length (c .args .chain .now .steps) = search needs in
-    loop-bounded (c .args .chain .now .steps) (c .args .chain .now .count) (c .args .moved) (c .args .tolerance .units) (c .args .offset) (c .args .values) (c .start-p .result) h (c .start-p .ensures) (c .loop-i .i) (c .loop-i .p) (c .args .tolerance .most) (c .loop-i .inv)
+    loop-bounded (c .args .chain .now .steps) (c .args .chain .now .count) (c .args .moved) (c .args .tolerance .units) (c .args .offset) (c .args .values) (c .unpushed-p .result) h (c .unpushed-p .ensures) (c .loop-i .i) (c .loop-i .p) (c .args .tolerance .most) (c .loop-i .inv)
 
 pub returns : need.returns
 returns c =
     let h : c .args .chain .now .count ≤ length (c .args .chain .now .steps) = search needs in
-    let e = loop-ended (c .args .chain .now .steps) (c .args .chain .now .count) (c .args .moved) (c .args .tolerance .units) (c .args .offset) (c .args .values) (c .start-p .result) h (c .start-p .ensures) (c .loop-i .i) (c .loop-i .p) (c .settable-step .result) (c .step-on-2 .result) (c .loop-i-test .left) (c .loop-i .inv) (c .settable-step .ensures) (c .step-on-2 .ensures) in
+    let e = loop-ended (c .args .chain .now .steps) (c .args .chain .now .count) (c .args .moved) (c .args .tolerance .units) (c .args .offset) (c .args .values) (c .unpushed-p .result) h (c .unpushed-p .ensures) (c .loop-i .i) (c .loop-i .p) (c .settable-step .result) (c .step-on-2 .result) (c .loop-i-test .left) (c .loop-i .inv) (c .settable-step .ensures) (c .step-on-2 .ensures) in
     record { told = e; sound = pushed-sound (stepsOf (c .args .chain .now)) (c .args .moved) (c .args .tolerance .units) (c .args .offset) (c .args .values) (c .step-on-2 .result) e; limited = pushed-limited (stepsOf (c .args .chain .now)) (c .args .moved) (c .args .tolerance .units) (c .args .offset) (c .args .values) (c .step-on-2 .result) e }
