@@ -93,8 +93,8 @@ pub fn work_programme<E: MachineEnd>(
         start: 0,
         fault: Fault::Argument
     }; room(rolls.declines, text)]?;
-    let mut moves = Roll::empty(move_places.as_mut_slice());
-    let mut declines = Roll::empty(decline_places.as_mut_slice());
+    let mut moves = Roll::new(move_places.as_mut_slice());
+    let mut declines = Roll::new(decline_places.as_mut_slice());
     let told = work_text(translator, text, &mut moves, &mut declines);
     say_records(&mut moves, &mut declines, report)?;
     match told {

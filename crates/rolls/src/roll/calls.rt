@@ -30,14 +30,6 @@ impl<'a, R: Copy> Roll<'a, R> {
         Ok(())
     }
 
-    /// A roll of no records over places.
-    pub fn empty(places: &'a mut [R]) -> Roll<'a, R>
-        ensures made { λ r. ⌜ rollOf r ≡ record { places = now (places .entry); count = 0 } ⌝ }
-        ensures lent { λ r. ⌜ name (r .places) ≡ name (places .entry) ⌝ }
-    {
-        Roll { places, count: 0 }
-    }
-
     /// How many records there are.
     pub fn count(&mut self) -> usize
         ensures told { λ r. ⌜ r ≡ length (recordsOf (rollOf (now (self .entry)))) ⌝ }
