@@ -1,4 +1,6 @@
 pub mod Measured
+pub mod Ordinaries
+pub mod Products
 pub mod Held
 pub mod Settled
 pub mod Turns

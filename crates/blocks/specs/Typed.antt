@@ -3,6 +3,7 @@ use mathlib.Core.Path.{_≡_}
 use mathlib.Core.Bool.{Bool, true, false, cond, not, _||_}
 use mathlib.Core.List.{List, [], _∷_}
 use Prim.Native.Nat.{ℕ}
+use lib.ListN.{getD}
 use Rattle.std.specs.Options.{isSome}
 use Rattle.std.specs.declared.option.Option.{Option}
 use Rattle.std.specs.declared.option.Option.the-variants.{Some, None}
@@ -30,14 +31,23 @@ use Rattle.blocks.specs.declared.types.FrameChange.{FrameChange}
 use Rattle.blocks.specs.declared.types.FrameChange.the-variants.{Empty, Replace, Append}
 use Rattle.blocks.specs.declared.types.Block.{Block}
 use Rattle.blocks.specs.declared.types.Block.the-variants.{Frame, Limit, Ordinary}
+use Rattle.blocks.specs.Slots.{hit}
 use Rattle.blocks.specs.Found.{slotsOf}
 use Rattle.blocks.specs.Order.{orderOf}
 use Rattle.blocks.specs.Measures.{lengthIn, factorIn, angleIn, zeroAngle}
-use Rattle.blocks.specs.Rules.{misplaced, misplacedIn, unfit, unfitIn, measure, measureUnder, outOfRange, outOfRangeIn, inchUnder, inchIn}
+use Rattle.blocks.specs.Rules.{misplaced, misplacedIn, unfit, unfitIn, measure, measureUnder, outOfRange, outOfRangeIn, inchUnder, inchIn, lesser}
 
 abbrev pub lengthAt : Bool → Option Measured → Option Length
 lengthAt inch None = None
 lengthAt inch (Some m) = lengthIn inch (m .number)
+
+-- the places of words that made no length, the least of them
+abbrev pub lackingAt : Option Measured → Option Length → Option ℕ
+lackingAt None v = None
+lackingAt (Some m) v = hit (not (isSome v)) (m .place)
+
+abbrev pub lackingIn : Axes → List (Option Length) → Option ℕ
+lackingIn a vs = lesser (lackingAt (a .x) (getD vs 0 None)) (lesser (lackingAt (a .y) (getD vs 1 None)) (lackingAt (a .z) (getD vs 2 None)))
 
 abbrev pub factorAt : Option Measured → Option Factor
 factorAt None = None

@@ -2,6 +2,7 @@
 ghost use mathlib.Core.Path.{_≡_};
 ghost use Prim.Native.Nat.{_*_, _^_, _≤_};
 ghost use lib.IntN.{pos, _*ℤ_};
+ghost use lib.Signed.{_≤ℤ_};
 ghost use Rattle.units.specs.Quantities.{lengthOf};
 ghost use Rattle.blocks.specs.Measures.{wholeFactor, wholeAngle, lengthIn, factorIn, angleIn};
 use reader::types::Number;
@@ -46,13 +47,15 @@ fn inch_power(k: usize) -> i64
     }
 }
 
+// A value out of range stays so when it is multiplied.
 fn product_length(value: i64, by: i64) -> Option<Length>
+    requires { ⌜ pos 1 ≤ℤ by ⌝ ∗ ⌜ by ≤ℤ pos 100000000 ⌝ }
     ensures { λ r. ⌜ r ≡ lengthOf (value *ℤ by) ⌝ }
 {
-    match value.checked_mul(by) {
-        Some(units) => Length::new(units),
-        None => None,
+    if value.unsigned_abs() > Length::MOST {
+        return None;
     }
+    Length::new(value * by)
 }
 
 fn whole_factor(parts: i64) -> Option<Factor>

@@ -1,7 +1,8 @@
 // The rules over a whole block, 6, 7 and 8, and what a right block says.
 ghost use mathlib.Core.Path.{_≡_};
 ghost use Rattle.blocks.specs.Rules.{misplacedIn, unfitWith, unfitFrame, unfitBy, unfitIn, inchUnder, measureFrame, measureUnder, badAxis, badRpl, lesser, placeIf, outOfRangeIn};
-ghost use Rattle.blocks.specs.Typed.{lengthAt, factorAt, orZero, angleAt, lengths as lengthsOf, factors as factorsOf, named as namedOf, stepOf, changeBy, made as madeOf, judgedIn};
+ghost use Rattle.blocks.specs.Typed.{lengthAt, factorAt, orZero, angleAt, lengths as lengthsOf, factors as factorsOf, named as namedOf, stepOf, changeBy, madeBy, madeUnder, ruled, judgedIn, lackingAt, lackingIn};
+ghost use Rattle.std.specs.declared.option.Option.the-variants.{None};
 use crate::gathered::Axes;
 use crate::gathered::Gathered;
 use crate::gathered::Instruction;
@@ -284,39 +285,64 @@ fn change(additive: bool, worded: bool, step: FrameStep) -> FrameChange
     FrameChange::Empty
 }
 
-fn made(inch: bool, g: &Gathered) -> Block
-    ensures { λ r. ⌜ r ≡ madeOf inch (now (g .entry) .slots) (now (g .entry) .order) ⌝ }
+fn instructed(i: Placed, inch: bool, g: &Gathered) -> Block
+    ensures { λ r. ⌜ r ≡ madeBy (i .by) (i .place) inch (now (g .entry) .slots) (now (g .entry) .order) ⌝ }
 {
-    match g.order.instruction {
-        Some(
-            Placed {
-                by: Instruction::Frame { kind, additive },
-                place,
-            },
-        ) => {
+    let place = i.place;
+    match i.by {
+        Instruction::Frame { kind, additive } => {
             let worded = g.order.axis.is_some() || g.slots.rpl.is_some();
             Block::Frame {
                 change: change(additive, worded, step(kind, inch, &g.slots)),
                 place,
             }
         }
-        Some(
-            Placed {
-                by: Instruction::Limit(side),
-                place,
-            },
-        ) => Block::Limit {
+        Instruction::Limit(side) => Block::Limit {
             side,
             values: lengths(inch, &g.slots.axes),
             place,
         },
-        None => Block::Ordinary(Ordinary {
+    }
+}
+
+// Where a word's number made no length.
+fn lacking(word: Option<Measured>, value: Option<Length>) -> Option<usize>
+    ensures { λ r. ⌜ r ≡ lackingAt word value ⌝ }
+{
+    match word {
+        Some(w) => {
+            if value.is_none() {
+                return Some(w.place);
+            }
+            None
+        }
+        None => None,
+    }
+}
+
+fn lacking_place(a: &Axes, values: [Option<Length>; 3]) -> Option<usize>
+    ensures { λ r. ⌜ r ≡ lackingIn (now (a .entry)) values ⌝ }
+{
+    let x = lacking(a.x, values[0]);
+    let y = lacking(a.y, values[1]);
+    let z = lacking(a.z, values[2]);
+    lesser_place(x, lesser_place(y, z))
+}
+
+// 8 in a block without an instruction, else the block: its lengths are worked out once.
+fn ordinary(inch: bool, g: &Gathered) -> Result<Block, Fault>
+    ensures { λ r. ⌜ r ≡ ruled None None (outOfRangeIn (measureUnder None inch) (now (g .entry) .slots)) (madeUnder None inch (now (g .entry) .slots) (now (g .entry) .order)) ⌝ }
+{
+    let words = lengths(inch, &g.slots.axes);
+    match lacking_place(&g.slots.axes, words) {
+        Some(place) => Err(Fault::Range { place }),
+        None => Ok(Block::Ordinary(Ordinary {
             selections: g.slots.groups.selections,
             machine: g.slots.groups.machine,
-            words: lengths(inch, &g.slots.axes),
+            words,
             first: g.order.axis,
             ends: g.slots.ms.ends,
-        }),
+        })),
     }
 }
 
@@ -331,8 +357,13 @@ pub fn judge(inch: bool, g: &Gathered) -> Result<Block, Fault>
     if let Some(place) = unfit_place(&g.order, g.slots.rpl) {
         return Err(Fault::Unfit { place });
     }
-    if let Some(place) = out_of_range(measure(g.order.instruction, inches), &g.slots) {
-        return Err(Fault::Range { place });
+    match g.order.instruction {
+        Some(i) => {
+            if let Some(place) = out_of_range(measure(g.order.instruction, inches), &g.slots) {
+                return Err(Fault::Range { place });
+            }
+            Ok(instructed(i, inches, g))
+        }
+        None => ordinary(inches, g),
     }
-    Ok(made(inches, g))
 }

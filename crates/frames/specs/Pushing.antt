@@ -148,6 +148,11 @@ tested n m tol p =
     orElse (firstAxis (isBeyond m p)) (λ a. Beyond 0 a n)
     (orElse (firstAxis (isWide m tol p)) (λ a. Spread 0 a n) (Ok p))
 
+-- the image that was tested, where it passed
+abbrev pub given : Result (Unit {0}) Fault → Image → Result Image Fault
+given (Ok _) p = Ok p
+given (Err e) p = Err e
+
 abbrev pub onward : ℕ → List Bool → ℕ → Step → Result Image Fault → Result Image Fault
 onward n m tol s (Ok p) = tested n m tol (through m s p)
 onward n m tol s (Err e) = Err e
@@ -165,8 +170,11 @@ abbrev pub started : List Length → Image
 started values = record { at = lengthAt values 0 .units ∷ lengthAt values 1 .units ∷ lengthAt values 2 .units ∷ []; spread = 0 ∷ 0 ∷ 0 ∷ [] }
 
 -- the settable offset, added to all three axes
+abbrev pub onAll : List Length → List (Option Length)
+onAll o = Some (lengthAt o 0) ∷ Some (lengthAt o 1) ∷ Some (lengthAt o 2) ∷ []
+
 abbrev pub settable : List Length → Step
-settable o = Offset (Some (lengthAt o 0) ∷ Some (lengthAt o 1) ∷ Some (lengthAt o 2) ∷ [])
+settable o = Offset (onAll o)
 
 -- the chain, and then the settable offset, which is told as step 9
 abbrev pub pushed : List Step → List Bool → ℕ → List Length → List Length → Result Image Fault

@@ -7,9 +7,10 @@ ghost use lib.IntN.{ℤ, natAbs};
 ghost use lib.ListN.{length, getD, take};
 ghost use Rattle.std.specs.Vec.{made};
 ghost use Rattle.chains.specs.Chains.{stepsOf};
-ghost use Rattle.frames.specs.Pushing.{axisAt, through, firstAxis, tooFar, tooWide, isBeyond, isWide, tested as passed, pushed, settable, started, Bounded};
+ghost use Rattle.frames.specs.Pushing.{axisAt, through, firstAxis, tooFar, tooWide, isBeyond, isWide, tested as passed, given, pushed, onAll, started, Bounded};
 ghost use Rattle.frames.specs.Theorems.{Sound, Limited};
 use crate::image::Image;
+use crate::step::offset_step;
 use crate::step::stepped;
 use chains::chain::Chain;
 use chains::step::Step;
@@ -54,8 +55,8 @@ fn too_wide(tolerance: Tolerance, moved: bool, r: u64) -> bool
     moved && r > tolerance.units
 }
 
-fn first_beyond(moved: [bool; 3], p: Image) -> Option<Axis>
-    ensures { λ r. ⌜ r ≡ firstAxis (isBeyond moved p) ⌝ }
+fn first_beyond(moved: [bool; 3], p: &Image) -> Option<Axis>
+    ensures { λ r. ⌜ r ≡ firstAxis (isBeyond moved (now (p .entry))) ⌝ }
 {
     for a in 0..3 {
         if too_far(moved[a], p.at[a]) {
@@ -65,8 +66,8 @@ fn first_beyond(moved: [bool; 3], p: Image) -> Option<Axis>
     None
 }
 
-fn first_wide(moved: [bool; 3], tolerance: Tolerance, p: Image) -> Option<Axis>
-    ensures { λ r. ⌜ r ≡ firstAxis (isWide moved (tolerance .units) p) ⌝ }
+fn first_wide(moved: [bool; 3], tolerance: Tolerance, p: &Image) -> Option<Axis>
+    ensures { λ r. ⌜ r ≡ firstAxis (isWide moved (tolerance .units) (now (p .entry))) ⌝ }
 {
     for a in 0..3 {
         if too_wide(tolerance, moved[a], p.spread[a]) {
@@ -77,8 +78,8 @@ fn first_wide(moved: [bool; 3], tolerance: Tolerance, p: Image) -> Option<Axis>
 }
 
 /// 13 over the axes, then 14, each in axis order.
-fn tested(step: u8, moved: [bool; 3], tolerance: Tolerance, p: Image) -> Result<Image, Fault>
-    ensures { λ r. ⌜ r ≡ passed step moved (tolerance .units) p ⌝ }
+fn tested(step: u8, moved: [bool; 3], tolerance: Tolerance, p: &Image) -> Result<(), Fault>
+    ensures { λ r. ⌜ given r (now (p .entry)) ≡ passed step moved (tolerance .units) (now (p .entry)) ⌝ }
 {
     if let Some(axis) = first_beyond(moved, p) {
         return Err(Fault::Beyond {
@@ -94,28 +95,29 @@ fn tested(step: u8, moved: [bool; 3], tolerance: Tolerance, p: Image) -> Result<
             step,
         });
     }
-    Ok(p)
+    Ok(())
 }
 
-/// One step and the tests after it.
+/// One step and the tests after it, in place.
 fn step_on(
     number: u8,
     moved: [bool; 3],
     tolerance: Tolerance,
     step: &Step,
-    p: Image,
-) -> Result<Image, Fault>
-    requires { ⌜ Bounded p ⌝ }
-    ensures { λ r. ⌜ r ≡ passed number moved (tolerance .units) (through moved (now (step .entry)) p) ⌝ }
+    p: &mut Image,
+) -> Result<(), Fault>
+    requires { ⌜ Bounded (now p) ⌝ }
+    ensures { λ r. ⌜ given r (now (p .exit)) ≡ passed number moved (tolerance .units) (through moved (now (step .entry)) (now (p .entry))) ⌝ }
 {
-    tested(number, moved, tolerance, stepped(moved, step, p))
+    *p = stepped(moved, step, *p);
+    tested(number, moved, tolerance, p)
 }
 
-/// The settable offset as a step that names all three axes.
-fn settable_step(offset: [Length; 3]) -> Step
-    ensures { λ r. ⌜ r ≡ settable offset ⌝ }
+/// The settable offset names all three axes.
+fn on_all(offset: [Length; 3]) -> [Option<Length>; 3]
+    ensures { λ r. ⌜ r ≡ onAll offset ⌝ }
 {
-    Step::Offset([Some(offset[0]), Some(offset[1]), Some(offset[2])])
+    [Some(offset[0]), Some(offset[1]), Some(offset[2])]
 }
 
 /// The workpiece values themselves, with spreads of 0.
@@ -143,10 +145,14 @@ pub fn push(
 {
     let mut p = unpushed(values);
     for i in (0..chain.count).rev() {
-        match step_on(step_number(i), moved, tolerance, &chain.steps[i], p) {
-            Ok(q) => p = q,
+        match step_on(step_number(i), moved, tolerance, &chain.steps[i], &mut p) {
+            Ok(()) => {}
             Err(fault) => return Err(fault),
         }
     }
-    step_on(SETTABLE, moved, tolerance, &settable_step(offset), p)
+    p = offset_step(moved, on_all(offset), p);
+    match tested(SETTABLE, moved, tolerance, &p) {
+        Ok(()) => Ok(p),
+        Err(fault) => Err(fault),
+    }
 }

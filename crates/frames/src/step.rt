@@ -176,7 +176,8 @@ fn turn_spread_at(
     }
 }
 
-fn offset_step(moved: [bool; 3], by: [Option<Length>; 3], p: Image) -> Image
+/// The moved axes through an offset.
+pub fn offset_step(moved: [bool; 3], by: [Option<Length>; 3], p: Image) -> Image
     requires { ⌜ Bounded p ⌝ }
     ensures { λ r. ⌜ r ≡ through moved (Offset by) p ⌝ }
 {

@@ -59,7 +59,9 @@ impl Setup {
     pub fn settle(&mut self, block: &Ordinary, plan: Plan)
         ensures { λ _. ⌜ setupOf (now (self .exit)) ≡ movedBy (setupOf (now (self .entry))) (now (block .entry)) plan ⌝ }
     {
-        self.select(block);
+        self.modes = self.modes.selected(block.selections);
+        self.force = self.force.selected(block.selections.settable);
+        self.ended = block.ends || self.ended;
         let values = plan.values;
         let image = plan.image;
         self.values = values;

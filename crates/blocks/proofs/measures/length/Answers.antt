@@ -9,6 +9,7 @@ use mir.Val.{toZ, ofZ}
 use Rattle.std.proofs.shelf.Signed.{ints}
 use Rattle.blocks.specs.Measures.{lengthIn}
 use Rattle.blocks.proofs.Measured.{in-inches, in-millimetres}
+use Rattle.blocks.proofs.Products.{power-range}
 use Rattle.blocks.proofs.measures.length.Needs as need
 
 pub returns-then-inch : need.returns-then-inch
@@ -24,3 +25,13 @@ returns c =
     let v : toZ w64 (ofZ w64 (c .args .n .value)) ≡ c .args .n .value = search needs in
     let b : toZ w64 (ofZ w64 (c .power .result)) ≡ pos (10 ^ (5 - c .args .n .decimals)) = omega (arith, ints, c .power .ensures) in
     in-millimetres n (c .product-length-2 .result) (toZ w64 (ofZ w64 (c .args .n .value))) (toZ w64 (ofZ w64 (c .power .result))) (omega arith) (c .product-length-2 .ensures) v b ∙ ap (λ i. lengthIn i n) (sym (c .if-inch .left))
+
+pub product-length-requires : need.product-length-requires
+product-length-requires c κs =
+    let r = power-range (4 - c .args .n .decimals) (omega arith) in
+    (omega (arith, ints, c .inch-power .ensures, r .0, r .1), omega (arith, ints, c .inch-power .ensures, r .0, r .1))
+
+pub product-length-requires-2 : need.product-length-requires-2
+product-length-requires-2 c κs =
+    let r = power-range (5 - c .args .n .decimals) (omega arith) in
+    (omega (arith, ints, c .power .ensures, r .0, r .1), omega (arith, ints, c .power .ensures, r .0, r .1))
