@@ -1,4 +1,4 @@
-// A table of machine ends: making them, areas, moves and questions at both edges of every range.
+// A programme with offsets and a turn, as a manual prints it: its records.
 use jobs::streams::work_input;
 use std::io;
 
