@@ -1,4 +1,6 @@
 //! Blocks with their answers, worked out by hand from the rules.
+#![tactic(auto)]
+
 use blocks::block::typed_block;
 use blocks::types::{Block, FrameChange, FrameStep};
 

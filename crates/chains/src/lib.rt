@@ -1,4 +1,6 @@
 //! The programmable frame: steps, the chain of at most eight of them, the axes that they touch and those that turns join.
+#![tactic(auto)]
+
 pub mod chain;
 pub mod joined;
 pub mod plane;

@@ -1,4 +1,6 @@
 // A table of blocks, checked: every decline of a block, every place rule, both edges of every range.
+#![tactic(auto)]
+
 use jobs::streams::work_input;
 use std::io;
 

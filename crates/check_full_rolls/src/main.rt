@@ -1,4 +1,6 @@
 // A programme whose move roll is too small: its records, and where the work stopped.
+#![tactic(auto)]
+
 use jobs::streams::work_input;
 use std::io;
 

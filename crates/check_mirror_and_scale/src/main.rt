@@ -1,4 +1,6 @@
 // A programme with mirrors and a scale, as a manual prints it: its records.
+#![tactic(auto)]
+
 use jobs::streams::work_input;
 use std::io;
 

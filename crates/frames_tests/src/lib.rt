@@ -1,4 +1,6 @@
 //! Pushing compared with an outside computation.
+#![tactic(auto)]
+
 pub mod cases;
 
 use chains::chain::Chain;

@@ -1,4 +1,6 @@
 //! Whole job scripts: an answer to each line.
+#![tactic(auto)]
+
 pub mod answers;
 pub mod check;
 pub mod convert;

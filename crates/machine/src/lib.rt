@@ -1,4 +1,6 @@
 //! Machine ends: what takes the moves, with layers over it.
+#![tactic(auto)]
+
 pub mod area;
 pub mod axes;
 pub mod bounds;

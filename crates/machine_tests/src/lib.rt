@@ -1,4 +1,6 @@
 //! Examples for the machine ends.
+#![tactic(auto)]
+
 pub mod deep;
 pub mod pile;
 #[cfg(test)]

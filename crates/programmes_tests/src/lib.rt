@@ -1,4 +1,6 @@
 //! Texts with what is told of them, over a scale end of increment 100 and limits ±50,000,000, tolerance 100.
+#![tactic(auto)]
+
 use frames::image::Image;
 use machine::bounds::Bounds;
 use machine::scale::ScaleEnd;

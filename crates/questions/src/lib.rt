@@ -1,2 +1,4 @@
 //! Questions that any machine end answers.
+#![tactic(auto)]
+
 pub mod question;

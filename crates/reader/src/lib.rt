@@ -1,4 +1,6 @@
 //! Reads the words of a block: each is a part of the caller's bytes, with its place.
+#![tactic(auto)]
+
 pub mod functions;
 pub mod number;
 pub mod reader;

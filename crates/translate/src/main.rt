@@ -1,4 +1,6 @@
 // The program: works a job script from standard input.
+#![tactic(auto)]
+
 use jobs::streams::work_input;
 use std::io;
 
