@@ -2,7 +2,7 @@
 use machine::area::WorkArea;
 use workpiece::setup::Setup;
 
-pub mod blocks;
+pub mod block_calls;
 pub mod calls;
 
 /// The setup of a job, and the pile that its targets go to: one work area over the end that was given.
