@@ -4,7 +4,7 @@ ghost use Rattle.translator.specs.State.{state_of, still, widest, opened, Tells}
 ghost use Rattle.translator.specs.Work.{entered, afresh, replied, left_by};
 
 use super::Translator;
-use super::blocks::still_at;
+use super::block_calls::still_at;
 use crate::reply::{Reading, Reply};
 use machine::area::WorkArea;
 use machine::bounds::Bounds;
