@@ -15,7 +15,7 @@ pub struct Visit {
 
 /// Moves the end to each point in turn, until one is declined.
 pub fn visit_all<E: MachineEnd>(end: &mut E, points: &[Point]) -> Visit
-    ensures { Visited (meaning end.old) points.now result (meaning end.new) }
+    ensures { Visited (E.meaning end.old) points.now result (E.meaning end.new) }
 {
     let mut taken = 0;
     while taken < points.len() {

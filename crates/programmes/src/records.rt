@@ -18,7 +18,7 @@ pub struct DeclineRecord {
 }
 
 impl Record for MoveRecord {
-    ghost startOf = { λ r. r.start };
+    ghost start_of = { λ r. r.start };
 
     fn start(&self) -> usize {
         self.start
@@ -26,7 +26,7 @@ impl Record for MoveRecord {
 }
 
 impl Record for DeclineRecord {
-    ghost startOf = { λ r. r.start };
+    ghost start_of = { λ r. r.start };
 
     fn start(&self) -> usize {
         self.start

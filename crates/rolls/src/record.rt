@@ -3,8 +3,8 @@ ghost use Rattle.std.specs.Prelude.{◌≡◌, ℕ};
 
 /// A record that tells the byte its block starts at.
 pub trait Record {
-    ghost startOf: { Self → ℕ };
+    ghost start_of: { Self → ℕ };
 
     fn start(&self) -> usize
-        ensures { result ≡ startOf self.now };
+        ensures { result ≡ start_of self.now };
 }

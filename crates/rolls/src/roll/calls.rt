@@ -70,7 +70,7 @@ impl<'a, R: Copy> Roll<'a, R> {
 impl<'a, R: Record + Copy> Roll<'a, R> {
     /// Puts a record at the next free place; 16 where there is none, and then nothing changes.
     pub fn append(&mut self, r: R) -> Result<(), Fault>
-        ensures told { result ≡ room_for startOf (roll_of self.old) r }
+        ensures told { result ≡ room_for R.start_of (roll_of self.old) r }
         ensures left { roll_of self.new ≡ appended (roll_of self.old) r }
         ensures filed { Filed (roll_of self.old) r (roll_of self.new) }
         ensures lent { self.new.places.ghost_name ≡ self.old.places.ghost_name }
@@ -84,8 +84,8 @@ impl<'a, R: Record + Copy> Roll<'a, R> {
 
     /// The first record whose block starts at a byte or after it.
     pub fn find(&mut self, byte: usize) -> Option<R>
-        ensures told { result ≡ first_from startOf (records_of (roll_of self.old)) byte }
-        ensures first { First startOf (records_of (roll_of self.old)) byte result }
+        ensures told { result ≡ first_from R.start_of (records_of (roll_of self.old)) byte }
+        ensures first { First R.start_of (records_of (roll_of self.old)) byte result }
         ensures same { self.new ≡ self.old }
     {
         for i in 0..self.count {

@@ -41,4 +41,4 @@ pub returns : goal.returns
 returns c =
     let whole = take_all c.loop-i.i c.args.s.now c.loop-i-test.false in
     let code = subst Code whole c.loop-i.invariant.1 in
-    (record { only = code.only; some = ⊎_elim (λ l. l) (λ z. absurd (false-eqb _ _ c.if-is-empty.ensures (omega arith))) (cases_lt 0 (length c.args.s.now)); most = code.most }, c.loop-i.invariant.2 ∙ ap (digits_value 10) whole)
+    (record { only = code.only; some = ⊎_elim (λ l. l) (λ z. absurd (false-eqb _ _ c.if-is_empty.ensures (omega arith))) (cases_lt 0 (length c.args.s.now)); most = code.most }, c.loop-i.invariant.2 ∙ ap (digits_value 10) whole)

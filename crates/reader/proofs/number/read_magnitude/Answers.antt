@@ -3,7 +3,7 @@ use Rattle.std.proofs.lemmas.List.{take_more, take_all}
 use Rattle.reader.specs.Shapes.{IsMagnitude, digits}
 use Rattle.reader.proofs.Shapes.{Sofar, carry, digit_plain, digit_after, point_first, begins, done, not_allowed, eleventh, second_point, first_wrong, first_short, ten_digits}
 use Rattle.reader.proofs.number.read_magnitude.Goals as goal
-use Rattle.reader.proofs.number.read_magnitude.Goals.{in-46+else-point, in-48-to-57+else-digits-eq-NUMBER-DIGITS+then-point-2, in-48-to-57+else-digits-eq-NUMBER-DIGITS+else-point-2}
+use Rattle.reader.proofs.number.read_magnitude.Goals.{in-46+else-point, in-48-to-57+else-digits-eq-NUMBER_DIGITS+then-point-2, in-48-to-57+else-digits-eq-NUMBER_DIGITS+else-point-2}
 
 pub loop-i-preserved : goal.loop-i-preserved
 loop-i-preserved c =
@@ -12,8 +12,8 @@ loop-i-preserved c =
     let more = sym (take_more s i 0 c.loop-i-test.true) in
     elim c.match-b.branch [
       | in-46+else-point w ↦ carry more w.value-is w.digits-is w.decimals-is w.point-is (point_first (get_or s i 0) (carry refl refl refl refl (sym w.if-point.false) c.loop-i.invariant) w.in-46.is)
-      | in-48-to-57+else-digits-eq-NUMBER-DIGITS+then-point-2 w ↦ carry more w.value-is w.digits-is w.decimals-is w.point-is (carry refl refl refl refl w.if-point-2.true (digit_after (get_or s i 0) (carry refl refl refl refl (sym w.if-point-2.true) c.loop-i.invariant) (omega arith) (omega arith) (omega arith)))
-      | in-48-to-57+else-digits-eq-NUMBER-DIGITS+else-point-2 w ↦ carry more w.value-is w.digits-is w.decimals-is w.point-is (carry refl refl refl refl w.if-point-2.false (digit_plain (get_or s i 0) (carry refl refl refl refl (sym w.if-point-2.false) c.loop-i.invariant) (omega arith) (omega arith) (omega arith)))
+      | in-48-to-57+else-digits-eq-NUMBER_DIGITS+then-point-2 w ↦ carry more w.value-is w.digits-is w.decimals-is w.point-is (carry refl refl refl refl w.if-point-2.true (digit_after (get_or s i 0) (carry refl refl refl refl (sym w.if-point-2.true) c.loop-i.invariant) (omega arith) (omega arith) (omega arith)))
+      | in-48-to-57+else-digits-eq-NUMBER_DIGITS+else-point-2 w ↦ carry more w.value-is w.digits-is w.decimals-is w.point-is (carry refl refl refl refl w.if-point-2.false (digit_plain (get_or s i 0) (carry refl refl refl refl (sym w.if-point-2.false) c.loop-i.invariant) (omega arith) (omega arith) (omega arith)))
     ]
 
 pub returns-in-default : goal.returns-in-default

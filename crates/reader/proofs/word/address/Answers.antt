@@ -4,7 +4,7 @@ use Rattle.reader.specs.declared.types.Address.{Address}
 use Rattle.reader.specs.Words.{spelled}
 use Rattle.reader.proofs.Names.{one, none}
 use Rattle.reader.proofs.word.address.Goals as goal
-use Rattle.reader.proofs.word.address.Goals.{in-default-via-then-s-lt1, in-default-via-else-s-lt1+else-s-lt2}
+use Rattle.reader.proofs.word.address.Goals.{in_default-via-then-s-lt1, in_default-via-else-s-lt1+else-s-lt2}
 
 pub returns-in-len1 : goal.returns-in-len1
 returns-in-len1 c =
@@ -15,7 +15,7 @@ returns-in-len1 c =
 pub returns-in-None : goal.returns-in-None
 returns-in-None c =
     let long : length c.args.s.now ≡ 1 → ⊥ = λ e. elim c.in-default.branch [
-      | in-default-via-then-s-lt1 w ↦ let h : length c.args.s.now < 1 = search rules in omega arith
-      | in-default-via-else-s-lt1+else-s-lt2 w ↦ let h : 2 ≤ length c.args.s.now = search rules in omega arith
+      | in_default-via-then-s-lt1 w ↦ let h : length c.args.s.now < 1 = search rules in omega arith
+      | in_default-via-else-s-lt1+else-s-lt2 w ↦ let h : 2 ≤ length c.args.s.now = search rules in omega arith
     ] in
     none c.args.s.now long (λ e. false≢true (c.if-spells.ensures.1 e)) c.in-None.ensures

@@ -6,4 +6,4 @@ use Rattle.rolls.proofs.roll.Roll.find.Given as goal
 abbrev pub invariant-loop-i : goal.invariant-loop-i
 invariant-loop-i g l =
     let rs = records_of (roll_of l.self) in
-    first_from g.R.Record.startOf rs l.byte ≡ first_from g.R.Record.startOf (drop l.i rs) l.byte
+    first_from g.R.Record.start_of rs l.byte ≡ first_from g.R.Record.start_of (drop l.i rs) l.byte
