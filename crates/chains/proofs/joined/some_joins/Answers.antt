@@ -11,7 +11,7 @@ returns-then-joins-next c =
 pub loop-i-preserved : goal.loop-i-preserved
 loop-i-preserved c =
     let h : c.args.chain.now.count ≤ length c.args.chain.now.steps = search rules in
-    not_here (joins_next c.args.k) c.args.chain.now.steps c.args.chain.now.count h c.loop-i.i _ c.loop-i-test.true c.loop-i.invariant (sym c.joins_next.ensures ∙ c.if-joins-next.false)
+    not_here (joins_next c.args.k) c.args.chain.now.steps c.args.chain.now.count h c.loop-i.i _ c.loop-i-test.true c.loop-i.invariant (sym c.joins_next.ensures ∙ c.if-joins_next.false)
 
 pub returns : goal.returns
 returns c =

@@ -11,7 +11,7 @@ returns-then-touches-axis c =
 pub loop-i-preserved : goal.loop-i-preserved
 loop-i-preserved c =
     let h : c.args.chain.now.count ≤ length c.args.chain.now.steps = search rules in
-    not_here (λ s. touches s c.args.a) c.args.chain.now.steps c.args.chain.now.count h c.loop-i.i _ c.loop-i-test.true c.loop-i.invariant (sym c.touches_axis.ensures ∙ c.if-touches-axis.false)
+    not_here (λ s. touches s c.args.a) c.args.chain.now.steps c.args.chain.now.count h c.loop-i.i _ c.loop-i-test.true c.loop-i.invariant (sym c.touches_axis.ensures ∙ c.if-touches_axis.false)
 
 pub returns : goal.returns
 returns c =

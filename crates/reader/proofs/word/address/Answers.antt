@@ -14,7 +14,7 @@ returns-in-len1 c =
 
 pub returns-in-None : goal.returns-in-None
 returns-in-None c =
-    let long : length c.args.s.now ≡ 1 → ⊥ = λ e. elim c.in-default.branch [
+    let long : length c.args.s.now ≡ 1 → ⊥ = λ e. elim c.in_default.branch [
       | in_default-via-then-s-lt1 w ↦ let h : length c.args.s.now < 1 = search rules in omega arith
       | in_default-via-else-s-lt1+else-s-lt2 w ↦ let h : 2 ≤ length c.args.s.now = search rules in omega arith
     ] in
