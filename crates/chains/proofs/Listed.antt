@@ -29,8 +29,8 @@ module _ (l : List Step) (k : ℕ) (h : k ≤ length l) where
   pub step_past : (n : ℕ) → k < n → None ≡ step_at (take k l) n
   step_past n g = let e = length-take-le k l h in past (take k l) n (omega arith)
 
-  pub step_at : (n : ℕ) (d : Step) → 0 < n → n ≤ k → Some (get_or l (n - 1) d) ≡ step_at (take k l) n
-  step_at n d g t =
+  pub step_at_lem : (n : ℕ) (d : Step) → 0 < n → n ≤ k → Some (get_or l (n - 1) d) ≡ step_at (take k l) n
+  step_at_lem n d g t =
       let e = length-take-le k l h in
       let u : suc (n - 1) ≡ n = omega arith in
       let v : n - 1 < k = omega arith in

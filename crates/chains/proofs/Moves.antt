@@ -183,15 +183,15 @@ module _ (ss : List Step) (n : List Bool) where
       let w = joined_both a b k in
       three_at (moved_by (λ k. linked k ss) n) b w.1 ∙ sym (same_by ss n a b k) ∙ sym (three_at (moved_by (λ k. linked k ss) n) a w.0) ∙ e
 
-  pub moved_axes : MovedAxes ss n (moved_axes ss n)
-  moved_axes = record {
+  pub moved_axes_lem : MovedAxes ss n (moved_axes ss n)
+  moved_axes_lem = record {
     only = λ a h e. sound a h (sym (three_at (moved_by (λ k. linked k ss) n) a h) ∙ e);
     every = λ a h m. three_at (moved_by (λ k. linked k ss) n) a h ∙ complete ss n a m;
     joined = all_joined;
   }
 
   pub moved_as : (r : List Bool) → r ≡ moved_axes ss n → MovedAxes ss n r
-  moved_as r e = subst (MovedAxes ss n) (sym e) moved_axes
+  moved_as r e = subst (MovedAxes ss n) (sym e) moved_axes_lem
 
 pub axes_is : (ss : List Step) (n : List Bool) (r s t xy yz zx : Bool) → xy ≡ linked 0 ss → yz ≡ linked 1 ss → zx ≡ linked 2 ss →
     r ≡ reached (get_or n 0 false) (get_or n 1 false) (get_or n 2 false) xy yz zx → s ≡ reached (get_or n 1 false) (get_or n 2 false) (get_or n 0 false) yz zx xy → t ≡ reached (get_or n 2 false) (get_or n 0 false) (get_or n 1 false) zx xy yz →

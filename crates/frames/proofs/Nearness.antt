@@ -28,8 +28,8 @@ mirror_near false x e r w = w
 
 -- odd turns
 module _ (t : ℕ) (i j : ℤ) (x y : Frac) (m : ℕ) (dx : Within i x m) (dy : Within j y m) where
-  pub odd_first : Within (odd_first t i j) (first_image t x y) (odd_spread m i j)
-  odd_first = first_within 1000000000 whole m i j (turn_c t) (turn_s t) (cosine_of t) (sine_of t) x y (omega arith) dx dy (law t).near.cosine_near (law t).near.sine_near (reach t) (odd_first t i j) (nearest_near (turn_c t *ℤ i -ℤ turn_s t *ℤ j) 1000000000 (omega arith)).close
+  pub odd_first_lem : Within (odd_first t i j) (first_image t x y) (odd_spread m i j)
+  odd_first_lem = first_within 1000000000 whole m i j (turn_c t) (turn_s t) (cosine_of t) (sine_of t) x y (omega arith) dx dy (law t).near.cosine_near (law t).near.sine_near (reach t) (odd_first t i j) (nearest_near (turn_c t *ℤ i -ℤ turn_s t *ℤ j) 1000000000 (omega arith)).close
 
-  pub odd_second : Within (odd_second t i j) (second_image t x y) (odd_spread m i j)
-  odd_second = second_within 1000000000 whole m i j (turn_c t) (turn_s t) (cosine_of t) (sine_of t) x y (omega arith) dx dy (law t).near.cosine_near (law t).near.sine_near (reach t) (odd_second t i j) (nearest_near (turn_s t *ℤ i +ℤ turn_c t *ℤ j) 1000000000 (omega arith)).close
+  pub odd_second_lem : Within (odd_second t i j) (second_image t x y) (odd_spread m i j)
+  odd_second_lem = second_within 1000000000 whole m i j (turn_c t) (turn_s t) (cosine_of t) (sine_of t) x y (omega arith) dx dy (law t).near.cosine_near (law t).near.sine_near (reach t) (odd_second t i j) (nearest_near (turn_s t *ℤ i +ℤ turn_c t *ℤ j) 1000000000 (omega arith)).close

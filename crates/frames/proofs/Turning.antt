@@ -8,7 +8,7 @@ use Rattle.fractions.proofs.Steps.{wider}
 use Rattle.turns.specs.Reference.{whole, cosine_of, sine_of, quarters_cosine, quarters_sine, quarter_cosine, quarter_sine}
 use Rattle.frames.specs.Exact.{first_image, second_image}
 use Rattle.frames.specs.Pushing.{odd_spread, quarters_first, quarters_second, quarters_spread, quartered, odd_first, odd_second, turned_first, turned_second, turned_spread}
-use Rattle.frames.proofs.Nearness.{odd_first, odd_second}
+use Rattle.frames.proofs.Nearness.{odd_first_lem, odd_second_lem}
 
 -- the four quarters
 module _ (i j : ℤ) (x y : Frac) (r s : ℕ) (dx : Within i x r) (dy : Within j y s) where
@@ -33,14 +33,14 @@ module _ (t : ℕ) (i j : ℤ) (x y : Frac) (r s : ℕ) (h : t < 3600000) (dx : 
       let z = eqb-true (t % 900000) 0 e in
       subst (λ (k : ℕ). Within (quarters_first (t / 900000) i j) (difference (product (over (quarters_cosine (t / 900000) (quarter_cosine k) (quarter_sine k)) whole) x) (product (over (quarters_sine (t / 900000) (quarter_cosine k) (quarter_sine k)) whole) y)) (quarters_spread (t / 900000) r s))
       (sym z) (quarter_first i j x y r s dx dy (t / 900000) (omega arith))
-  first_by false e = odd_first t i j x y (max r s) (wider i x r (max r s) (le-max_left r s) dx) (wider j y s (max r s) (le-max_right r s) dy)
+  first_by false e = odd_first_lem t i j x y (max r s) (wider i x r (max r s) (le-max_left r s) dx) (wider j y s (max r s) (le-max_right r s) dy)
 
   second_by : (b : Bool) → quartered t ≡ b → Within (cond b (quarters_second (t / 900000) i j) (odd_second t i j)) (second_image t x y) (cond b (quarters_spread (t / 900000) s r) (odd_spread (max s r) i j))
   second_by true e =
       let z = eqb-true (t % 900000) 0 e in
       subst (λ (k : ℕ). Within (quarters_second (t / 900000) i j) (sum (product (over (quarters_sine (t / 900000) (quarter_cosine k) (quarter_sine k)) whole) x) (product (over (quarters_cosine (t / 900000) (quarter_cosine k) (quarter_sine k)) whole) y)) (quarters_spread (t / 900000) s r))
       (sym z) (quarter_second i j x y r s dx dy (t / 900000) (omega arith))
-  second_by false e = odd_second t i j x y (max s r) (wider i x r (max s r) (le-max_right s r) dx) (wider j y s (max s r) (le-max_left s r) dy)
+  second_by false e = odd_second_lem t i j x y (max s r) (wider i x r (max s r) (le-max_right s r) dx) (wider j y s (max s r) (le-max_left s r) dy)
 
   pub turned_first_near : Within (turned_first t i j) (first_image t x y) (turned_spread t i j r s)
   turned_first_near = first_by (quartered t) refl

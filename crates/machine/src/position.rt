@@ -7,7 +7,7 @@ use units::axis::{Axis, Point};
 
 // No axis is unknown to an end, so the question is always answered.
 fn held_on<E: MachineEnd>(end: &E, axis: Axis) -> i64
-    ensures { result ≡ at (Meaning end.now).held axis }
+    ensures { result ≡ at (E.meaning end.now).held axis }
 {
     match end.held(axis.number()) {
         Ok(v) => v,
@@ -17,7 +17,7 @@ fn held_on<E: MachineEnd>(end: &E, axis: Axis) -> i64
 
 /// The position that an end holds.
 pub fn held_position<E: MachineEnd>(end: &E) -> Point
-    ensures { result ≡ (Meaning end.now).held }
+    ensures { result ≡ (E.meaning end.now).held }
 {
     Point {
         x: held_on(end, Axis::X),

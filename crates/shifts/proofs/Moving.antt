@@ -17,7 +17,7 @@ use Rattle.chains.specs.declared.step.Step.{Step}
 use Rattle.chains.specs.declared.step.Step.TheVariants.{Offset, Scale, Mirror, Turn}
 use Rattle.chains.specs.Joined.{moved_axes}
 use Rattle.chains.specs.Steps.{first_of, second_of}
-use Rattle.chains.proofs.Moves.{moved_axes}
+use Rattle.chains.proofs.Moves.{moved_axes_lem}
 use Rattle.frames.specs.declared.image.Image.{Image}
 use Rattle.frames.specs.Exact.{Exact, exact_at, exact_offset, exact_scale, exact_through, exact_values, exact_image, first_image, second_image}
 use Rattle.frames.specs.Pushing.{coordinate, spread_of, started, pushed}
@@ -167,7 +167,7 @@ module _ {inc : Axis → ℕ} {q : Plain} {s : State} (f : Follows inc q s) (o :
         let m = get_or (moved_axes s.setup.steps (named_by o.words)) a false in
         subst (λ (b : Bool). Within (cond m (coordinate w.new a) (coordinate s.setup.image a)) (cond b (image_of q (new_value q o) a) (q.exact a)) (cond m (spread_of w.new a) (spread_of s.setup.image a))) (sym (moves_so a))
         (kept_near m (coordinate w.new a) (coordinate s.setup.image a) (spread_of w.new a) (spread_of s.setup.image a) (image_of q (new_value q o) a) (q.exact a)
-        (λ e. subst (λ (x : Frac). Within (coordinate w.new a) x (spread_of w.new a)) (sym (exact_so a h)) (w.sound.near (moved_axes s.setup.steps (named_by o.words)).joined a h e))
+        (λ e. subst (λ (x : Frac). Within (coordinate w.new a) x (spread_of w.new a)) (sym (exact_so a h)) (w.sound.near (moved_axes_lem s.setup.steps (named_by o.words)).joined a h e))
         (f.exact a h))
 
     pub near_so : (a : ℕ) → a < 3 → Within (coordinate (kept_image (moved_axes s.setup.steps (named_by o.words)) w.new s.setup.image) a) ((workpiece_move q o).exact a) (spread_of (kept_image (moved_axes s.setup.steps (named_by o.words)) w.new s.setup.image) a)

@@ -11,7 +11,7 @@ use Rattle.units.proofs.Ranged.{length_made}
 use Rattle.fractions.specs.Fractions.{Frac, over}
 use Rattle.chains.specs.declared.step.Step.{Step}
 use Rattle.chains.specs.Joined.{moved_axes, by_name}
-use Rattle.chains.proofs.Moves.{moved_axes}
+use Rattle.chains.proofs.Moves.{moved_axes_lem}
 use Rattle.frames.specs.declared.image.Image.{Image}
 use Rattle.reader.specs.declared.functions.Distance.{Distance}
 use Rattle.reader.specs.declared.functions.Distance.TheVariants.{Absolute, Incremental}
@@ -91,7 +91,7 @@ bool_not false c h e = refl
 pub unmoved_unnamed : (steps : List Step) (ws : List (Option Length)) (a : ℕ) → a < 3 → get_or (moved_axes steps (named_by ws)) a false ≡ false → get_or ws a None ≡ None
 unmoved_unnamed steps ws a h e =
     unnamed (get_or ws a None) (bool_not (is_some (get_or ws a None)) (get_or (moved_axes steps (named_by ws)) a false)
-    (λ n. (moved_axes steps (named_by ws)).every a h (by_name a (named_at ws a h ∙ n))) e)
+    (λ n. (moved_axes_lem steps (named_by ws)).every a h (by_name a (named_at ws a h ∙ n))) e)
 
 -- the value that is kept is the one that stands
 kept_far : (z : ℤ) → (true && ltb 999999999 (nat_abs z)) ≡ false → units_of (length_of z) ≡ Some z

@@ -5,4 +5,4 @@ use Rattle.blocks.specs.Typed.{or_zero}
 use Rattle.blocks.proofs.rules.or_zero.Goals as goal
 
 pub returns : goal.returns
-returns c = same_angle _ zero_angle refl ∙ sym (ap or_zero c.in-default.is)
+returns c = same_angle _ zero_angle refl ∙ sym (ap or_zero c.in_default.is)

@@ -12,33 +12,33 @@ loop-i-init c =
     let h : c.args.chain.now.count ≤ length c.args.chain.now.steps = search rules in
     push_start c.args.chain.now.steps c.args.chain.now.count c.args.moved c.args.tolerance.units c.unpushed-p.result h (c.args.chain.now.count + 1)
 
-pub step-on-requires : goal.step-on-requires
-step-on-requires c =
+pub step_on-requires : goal.step_on-requires
+step_on-requires c =
     let h : c.args.chain.now.count ≤ length c.args.chain.now.steps = search rules in
     loop_bounded c.args.chain.now.steps c.args.chain.now.count c.args.moved c.args.tolerance.units c.args.offset c.args.values c.unpushed-p.result h c.unpushed-p.ensures c.loop-i.i c.loop-i.p c.args.tolerance.most c.loop-i.invariant
 
 pub loop-i-preserved : goal.loop-i-preserved
 loop-i-preserved c =
     let h : c.args.chain.now.count ≤ length c.args.chain.now.steps = search rules in
-    loop_next c.args.chain.now.steps c.args.chain.now.count c.args.moved c.args.tolerance.units c.args.offset c.args.values c.unpushed-p.result h c.unpushed-p.ensures c.loop-i.i c.step-number.result c.loop-i.p c.step-on.new.p _ c.step-number.ensures c.loop-i-test.true c.loop-i.auto.i c.loop-i.invariant c.in-Ok.ensures
+    loop_next c.args.chain.now.steps c.args.chain.now.count c.args.moved c.args.tolerance.units c.args.offset c.args.values c.unpushed-p.result h c.unpushed-p.ensures c.loop-i.i c.step_number.result c.loop-i.p c.step_on.new.p _ c.step_number.ensures c.loop-i-test.true c.loop-i.auto.i c.loop-i.invariant c.in-Ok.ensures
 
 pub returns-in-Err : goal.returns-in-Err
 returns-in-Err c =
     let h : c.args.chain.now.count ≤ length c.args.chain.now.steps = search rules in
-    record { told = loop_refused c.args.chain.now.steps c.args.chain.now.count c.args.moved c.args.tolerance.units c.args.offset c.args.values c.unpushed-p.result h c.unpushed-p.ensures c.loop-i.i c.step-number.result c.loop-i.p _ c.in-Err.fault c.step-number.ensures c.loop-i-test.true c.loop-i.auto.i c.loop-i.invariant c.in-Err.ensures; sound = tt; limited = tt }
+    record { told = loop_refused c.args.chain.now.steps c.args.chain.now.count c.args.moved c.args.tolerance.units c.args.offset c.args.values c.unpushed-p.result h c.unpushed-p.ensures c.loop-i.i c.step_number.result c.loop-i.p _ c.in-Err.fault c.step_number.ensures c.loop-i-test.true c.loop-i.auto.i c.loop-i.invariant c.in-Err.ensures; sound = tt; limited = tt }
 
-pub offset-step-p-requires : goal.offset-step-p-requires
-offset-step-p-requires c =
+pub offset_step-p-requires : goal.offset_step-p-requires
+offset_step-p-requires c =
     let h : c.args.chain.now.count ≤ length c.args.chain.now.steps = search rules in
     loop_bounded c.args.chain.now.steps c.args.chain.now.count c.args.moved c.args.tolerance.units c.args.offset c.args.values c.unpushed-p.result h c.unpushed-p.ensures c.loop-i.i c.loop-i.p c.args.tolerance.most c.loop-i.invariant
 
 pub returns-in-Ok-tested : goal.returns-in-Ok-tested
 returns-in-Ok-tested c =
     let h : c.args.chain.now.count ≤ length c.args.chain.now.steps = search rules in
-    let e = loop_ended c.args.chain.now.steps c.args.chain.now.count c.args.moved c.args.tolerance.units c.args.offset c.args.values c.unpushed-p.result h c.unpushed-p.ensures c.loop-i.i c.loop-i.p (Offset c.on-all.result) (Ok c.offset-step-p.result) c.loop-i-test.false c.loop-i.invariant (ap Offset c.on-all.ensures) (c.in-Ok-tested.ensures ∙ ap (tested 9 c.args.moved c.args.tolerance.units) c.offset-step-p.ensures) in
-    record { told = e; sound = pushed_sound (steps_of c.args.chain.now) c.args.moved c.args.tolerance.units c.args.offset c.args.values (Ok c.offset-step-p.result) e; limited = pushed_limited (steps_of c.args.chain.now) c.args.moved c.args.tolerance.units c.args.offset c.args.values (Ok c.offset-step-p.result) e }
+    let e = loop_ended c.args.chain.now.steps c.args.chain.now.count c.args.moved c.args.tolerance.units c.args.offset c.args.values c.unpushed-p.result h c.unpushed-p.ensures c.loop-i.i c.loop-i.p (Offset c.on_all.result) (Ok c.offset_step-p.result) c.loop-i-test.false c.loop-i.invariant (ap Offset c.on_all.ensures) (c.in-Ok-tested.ensures ∙ ap (tested 9 c.args.moved c.args.tolerance.units) c.offset_step-p.ensures) in
+    record { told = e; sound = pushed_sound (steps_of c.args.chain.now) c.args.moved c.args.tolerance.units c.args.offset c.args.values (Ok c.offset_step-p.result) e; limited = pushed_limited (steps_of c.args.chain.now) c.args.moved c.args.tolerance.units c.args.offset c.args.values (Ok c.offset_step-p.result) e }
 
 pub returns-in-Err-tested : goal.returns-in-Err-tested
 returns-in-Err-tested c =
     let h : c.args.chain.now.count ≤ length c.args.chain.now.steps = search rules in
-    record { told = loop_ended c.args.chain.now.steps c.args.chain.now.count c.args.moved c.args.tolerance.units c.args.offset c.args.values c.unpushed-p.result h c.unpushed-p.ensures c.loop-i.i c.loop-i.p (Offset c.on-all.result) (Err c.in-Err-tested.fault) c.loop-i-test.false c.loop-i.invariant (ap Offset c.on-all.ensures) (c.in-Err-tested.ensures ∙ ap (tested 9 c.args.moved c.args.tolerance.units) c.offset-step-p.ensures); sound = tt; limited = tt }
+    record { told = loop_ended c.args.chain.now.steps c.args.chain.now.count c.args.moved c.args.tolerance.units c.args.offset c.args.values c.unpushed-p.result h c.unpushed-p.ensures c.loop-i.i c.loop-i.p (Offset c.on_all.result) (Err c.in-Err-tested.fault) c.loop-i-test.false c.loop-i.invariant (ap Offset c.on_all.ensures) (c.in-Err-tested.ensures ∙ ap (tested 9 c.args.moved c.args.tolerance.units) c.offset_step-p.ensures); sound = tt; limited = tt }

@@ -2,8 +2,8 @@ use Rattle.std.proofs.Common.{w64, SFits, rules}
 use Rattle.frames.proofs.Products.{more_fits, more_is}
 use Rattle.frames.proofs.round.odd_second.Goals as goal
 
-pub overflow-add-value : goal.overflow-add-value
-overflow-add-value c =
+pub overflow_add-value : goal.overflow_add-value
+overflow_add-value c =
     let f : SFits w64 c.times.result = search rules in
     let g : SFits w64 c.times-2.result = search rules in
     more_fits c.times.result c.times-2.result f g c.times.ensures.size c.times-2.ensures.size
@@ -14,6 +14,6 @@ returns c =
     let g : SFits w64 c.times-2.result = search rules in
     let fc : SFits w64 c.args.n.cosine = search rules in
     let fs : SFits w64 c.args.n.sine = search rules in
-    let fI : SFits w64 c.div-nearest.result = search rules in
-    more_is c.times.result c.times-2.result f g c.times.ensures.size c.times-2.ensures.size c.args.n.cosine c.args.n.sine c.args.i c.args.j c.div-nearest.result fc fs c.ranges.i c.ranges.j fI
-    c.times.ensures.value c.times-2.ensures.value c.div-nearest.ensures.equal
+    let fI : SFits w64 c.div_nearest.result = search rules in
+    more_is c.times.result c.times-2.result f g c.times.ensures.size c.times-2.ensures.size c.args.n.cosine c.args.n.sine c.args.i c.args.j c.div_nearest.result fc fs c.ranges.i c.ranges.j fI
+    c.times.ensures.value c.times-2.ensures.value c.div_nearest.ensures.equal

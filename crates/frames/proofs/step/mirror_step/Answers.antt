@@ -7,8 +7,8 @@ use Rattle.frames.proofs.step.mirror_step.Goals as goal
 
 pub loop-a-preserved : goal.loop-a-preserved
 loop-a-preserved c =
-    let f : SFits w64 c.mirror-at.result = search rules in (
-      written_more c.loop-a.a (moved_at c.args.moved (Mirror c.args.named) c.args.p) c.args.p.at c.loop-a.q.at _ c.loop-a.invariant.0 (to_z-of_z w64 c.mirror-at.result f ∙ c.mirror-at.ensures),
+    let f : SFits w64 c.mirror_at.result = search rules in (
+      written_more c.loop-a.a (moved_at c.args.moved (Mirror c.args.named) c.args.p) c.args.p.at c.loop-a.q.at _ c.loop-a.invariant.0 (to_z-of_z w64 c.mirror_at.result f ∙ c.mirror_at.ensures),
       c.loop-a.invariant.1,
     )
 

@@ -7,9 +7,9 @@ use Rattle.frames.proofs.step.scale_step.Goals as goal
 
 pub loop-a-preserved : goal.loop-a-preserved
 loop-a-preserved c =
-    let f : SFits w64 c.scale-at.result = search rules in (
-      written_more c.loop-a.a (moved_at c.args.moved (Scale c.args.by) c.args.p) c.args.p.at c.loop-a.q.at _ c.loop-a.invariant.0 (to_z-of_z w64 c.scale-at.result f ∙ c.scale-at.ensures),
-      written_more c.loop-a.a (moved_spread c.args.moved (Scale c.args.by) c.args.p) c.args.p.spread c.loop-a.q.spread _ c.loop-a.invariant.1 c.scale-spread-at.ensures,
+    let f : SFits w64 c.scale_at.result = search rules in (
+      written_more c.loop-a.a (moved_at c.args.moved (Scale c.args.by) c.args.p) c.args.p.at c.loop-a.q.at _ c.loop-a.invariant.0 (to_z-of_z w64 c.scale_at.result f ∙ c.scale_at.ensures),
+      written_more c.loop-a.a (moved_spread c.args.moved (Scale c.args.by) c.args.p) c.args.p.spread c.loop-a.q.spread _ c.loop-a.invariant.1 c.scale_spread_at.ensures,
     )
 
 pub returns : goal.returns

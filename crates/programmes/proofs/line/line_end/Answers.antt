@@ -10,8 +10,8 @@ loop-i-init c = free_none c.args.text.now c.args.start
 pub loop-i-preserved : goal.loop-i-preserved
 loop-i-preserved c = free_on c.args.text.now c.args.start c.loop-i.i (search rules) (search rules) c.loop-i.invariant (search rules)
 
-pub returns-then-text-i-eq-LINE-FEED : goal.returns-then-text-i-eq-LINE-FEED
-returns-then-text-i-eq-LINE-FEED c = record { from = search rules; upto = search rules; free = c.loop-i.invariant; ended = λ _. search rules }
+pub returns-then-text-i-eq-LINE_FEED : goal.returns-then-text-i-eq-LINE_FEED
+returns-then-text-i-eq-LINE_FEED c = record { from = search rules; upto = search rules; free = c.loop-i.invariant; ended = λ _. search rules }
 
 pub returns : goal.returns
 returns c =

@@ -9,7 +9,7 @@ pub returns-in-Ok : goal.returns-in-Ok
 returns-in-Ok c =
     let given = Ok c.in-Ok.reply in
     record {
-      moves = filed_as move_of (roll_of c.args.moves.now) _ c.args.start c.args.reply given c.in-Ok.is c.file-move.ensures.left;
+      moves = filed_as move_of (roll_of c.args.moves.now) _ c.args.start c.args.reply given c.in-Ok.is c.file_move.ensures.left;
       declines = filed_as decline_of (roll_of c.args.declines.now) _ c.args.start c.args.reply given c.in-Ok.is (sym (no_more (roll_of c.args.declines.now)));
       lent = search rules;
       also = search rules;
@@ -20,7 +20,7 @@ returns-in-Err c =
     let given = Err c.in-Err.fault in
     record {
       moves = filed_as move_of (roll_of c.args.moves.now) _ c.args.start c.args.reply given c.in-Err.is (sym (no_more (roll_of c.args.moves.now)));
-      declines = filed_as decline_of (roll_of c.args.declines.now) _ c.args.start c.args.reply given c.in-Err.is c.file-decline.ensures.left;
+      declines = filed_as decline_of (roll_of c.args.declines.now) _ c.args.start c.args.reply given c.in-Err.is c.file_decline.ensures.left;
       lent = search rules;
       also = search rules;
     }

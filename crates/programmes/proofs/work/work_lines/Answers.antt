@@ -16,17 +16,17 @@ pub loop-start-preserved : goal.loop-start-preserved
 loop-start-preserved g c =
     let t : State = state_of g.E.MachineEnd.meaning c.block-reply.new.self in
     let reading : Reading = record { image = t.setup.image; held = t.pile.held; chain = c.block-reply.new.self.setup.frames.chain } in
-    let m = c.one-is-full.ensures.same in
-    let d = c.one-is-full.ensures.also in
-    let none = sym c.one-is-full.ensures.told ∙ c.if-one-is-full.false in
-    (along_more _ c.args.text.now _ _ c.loop-start.start c.line-end-end.result _ t _ _ _ _ c.block-reply.result reading (along_kept (ap roll_of m) (ap roll_of d) c.loop-start.invariant.0) (omega arith) c.line-end-end.ensures (ap (λ (z : Roll MoveRecord). is_full (roll_of z)) m ∙ neither_first _ _ none) (ap (λ (z : Roll DeclineRecord). is_full (roll_of z)) d ∙ neither_second _ _ none) c.block-reply.ensures.told c.block-reply.ensures.left (record { image = refl; held = refl; steps = refl }) c.file.ensures.moves c.file.ensures.declines, c.file.ensures.lent ∙ ap (λ (z : Roll MoveRecord). z.places.ghost_name) m ∙ c.loop-start.invariant.1, c.file.ensures.also ∙ ap (λ (z : Roll DeclineRecord). z.places.ghost_name) d ∙ c.loop-start.invariant.2)
+    let m = c.one_is_full.ensures.same in
+    let d = c.one_is_full.ensures.also in
+    let none = sym c.one_is_full.ensures.told ∙ c.if-one_is_full.false in
+    (along_more _ c.args.text.now _ _ c.loop-start.start c.line_end-end.result _ t _ _ _ _ c.block-reply.result reading (along_kept (ap roll_of m) (ap roll_of d) c.loop-start.invariant.0) (omega arith) c.line_end-end.ensures (ap (λ (z : Roll MoveRecord). is_full (roll_of z)) m ∙ neither_first _ _ none) (ap (λ (z : Roll DeclineRecord). is_full (roll_of z)) d ∙ neither_second _ _ none) c.block-reply.ensures.told c.block-reply.ensures.left (record { image = refl; held = refl; steps = refl }) c.file.ensures.moves c.file.ensures.declines, c.file.ensures.lent ∙ ap (λ (z : Roll MoveRecord). z.places.ghost_name) m ∙ c.loop-start.invariant.1, c.file.ensures.also ∙ ap (λ (z : Roll DeclineRecord). z.places.ghost_name) d ∙ c.loop-start.invariant.2)
 
-pub returns-then-one-is-full : goal.returns-then-one-is-full
-returns-then-one-is-full g c =
-    let m = c.one-is-full.ensures.same in
-    let d = c.one-is-full.ensures.also in
+pub returns-then-one_is_full : goal.returns-then-one_is_full
+returns-then-one_is_full g c =
+    let m = c.one_is_full.ensures.same in
+    let d = c.one_is_full.ensures.also in
     record {
-      worked = stopped_by c.loop-start.start (along_kept (ap roll_of m) (ap roll_of d) c.loop-start.invariant.0) (omega arith) (full_kept _ _ _ _ _ (ap roll_of m) (ap roll_of d) c.one-is-full.ensures.told c.if-one-is-full.true);
+      worked = stopped_by c.loop-start.start (along_kept (ap roll_of m) (ap roll_of d) c.loop-start.invariant.0) (omega arith) (full_kept _ _ _ _ _ (ap roll_of m) (ap roll_of d) c.one_is_full.ensures.told c.if-one_is_full.true);
       lent = ap (λ (z : Roll MoveRecord). z.places.ghost_name) m ∙ c.loop-start.invariant.1;
       also = ap (λ (z : Roll DeclineRecord). z.places.ghost_name) d ∙ c.loop-start.invariant.2;
     }

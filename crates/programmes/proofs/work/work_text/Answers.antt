@@ -11,7 +11,7 @@ returns-then-text-gt-LONGEST g c = record {
 
 pub returns : goal.returns
 returns g c = record {
-  worked = record { lines = lines_are 0 c.args.text.now; worked = λ _. c.work-lines.ensures.worked; long = λ h. absurd (omega arith) };
+  worked = record { lines = lines_are 0 c.args.text.now; worked = λ _. c.work_lines.ensures.worked; long = λ h. absurd (omega arith) };
   lent = search rules;
   also = search rules;
 }

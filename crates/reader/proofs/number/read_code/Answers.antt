@@ -6,20 +6,20 @@ use Rattle.reader.specs.Shapes.{IsCode, FirstWrong}
 use Rattle.reader.proofs.Shapes.{Code, OnlyDigits, code_begins, code_ninth, code_room, code_worth, code_bound, code_other, code_digit, first_wrong, first_short}
 use Rattle.reader.proofs.number.read_code.Goals as goal
 
-pub returns-then-i-eq-CODE-DIGITS : goal.returns-then-i-eq-CODE-DIGITS
-returns-then-i-eq-CODE-DIGITS c = first_wrong IsCode c.args.s.now c.loop-i.i c.loop-i-test.true (code_begins _ c.loop-i.invariant.1) (code_ninth _ _ (length-take-le c.loop-i.i c.args.s.now (omega arith) ∙ c.if-i-eq-CODE-DIGITS.true))
+pub returns-then-i-eq-CODE_DIGITS : goal.returns-then-i-eq-CODE_DIGITS
+returns-then-i-eq-CODE_DIGITS c = first_wrong IsCode c.args.s.now c.loop-i.i c.loop-i-test.true (code_begins _ c.loop-i.invariant.1) (code_ninth _ _ (length-take-le c.loop-i.i c.args.s.now (omega arith) ∙ c.if-i-eq-CODE_DIGITS.true))
 
-pub overflow-mul-value : goal.overflow-mul-value
-overflow-mul-value c = omega (arith, code_room c.loop-i.value c.loop-i.i c.loop-i.invariant.3 (omega arith))
+pub overflow_mul-value : goal.overflow_mul-value
+overflow_mul-value c = omega (arith, code_room c.loop-i.value c.loop-i.i c.loop-i.invariant.3 (omega arith))
 
-pub overflow-add-value : goal.overflow-add-value
-overflow-add-value c = omega (arith, code_room c.loop-i.value c.loop-i.i c.loop-i.invariant.3 (omega arith))
+pub overflow_add-value : goal.overflow_add-value
+overflow_add-value c = omega (arith, code_room c.loop-i.value c.loop-i.i c.loop-i.invariant.3 (omega arith))
 
-pub returns-in-default : goal.returns-in-default
-returns-in-default c = first_wrong IsCode c.args.s.now c.loop-i.i c.loop-i-test.true (code_begins _ c.loop-i.invariant.1) (code_other _ _ (inl (omega arith)))
+pub returns-in_default : goal.returns-in_default
+returns-in_default c = first_wrong IsCode c.args.s.now c.loop-i.i c.loop-i-test.true (code_begins _ c.loop-i.invariant.1) (code_other _ _ (inl (omega arith)))
 
-pub returns-in-default·2 : goal.returns-in-default·2
-returns-in-default·2 c = first_wrong IsCode c.args.s.now c.loop-i.i c.loop-i-test.true (code_begins _ c.loop-i.invariant.1) (code_other _ _ (inr (omega arith)))
+pub returns-in_default-2 : goal.returns-in_default-2
+returns-in_default-2 c = first_wrong IsCode c.args.s.now c.loop-i.i c.loop-i-test.true (code_begins _ c.loop-i.invariant.1) (code_other _ _ (inr (omega arith)))
 
 pub loop-i-preserved : goal.loop-i-preserved
 loop-i-preserved c =
@@ -32,9 +32,9 @@ loop-i-preserved c =
     let high : get_or s i 0 ≤ 57 = omega arith in
     (omega arith, subst Code more (code_digit (take i s) b c.loop-i.invariant.1 low high (omega arith)), code_worth c.loop-i.value b (take i s) c.loop-i.invariant.2 low high ∙ ap (digits_value 10) more, code_bound c.loop-i.value b i c.loop-i.invariant.3 high)
 
-pub returns-then-is-empty : goal.returns-then-is-empty
-returns-then-is-empty c =
-    let none = true-eqb _ _ c.if-is-empty.ensures in
+pub returns-then-is_empty : goal.returns-then-is_empty
+returns-then-is_empty c =
+    let none = true-eqb _ _ c.if-is_empty.ensures in
     subst (FirstWrong IsCode c.args.s.now) none (first_short IsCode c.args.s.now (code_begins _ (record { only = subst OnlyDigits (sym (nil_from_length c.args.s.now none)) tt; most = omega arith })) (λ x. omega (arith, x.some)))
 
 pub returns : goal.returns

@@ -16,17 +16,17 @@ loop-i-preserved c =
       | in-48-to-57+else-digits-eq-NUMBER_DIGITS+else-point-2 w ↦ carry more w.value-is w.digits-is w.decimals-is w.point-is (carry refl refl refl refl w.if-point-2.false (digit_plain (get_or s i 0) (carry refl refl refl refl (sym w.if-point-2.false) c.loop-i.invariant) (omega arith) (omega arith) (omega arith)))
     ]
 
-pub returns-in-default : goal.returns-in-default
-returns-in-default c = first_wrong IsMagnitude c.args.s.now c.loop-i.i c.loop-i-test.true (begins c.loop-i.invariant) (not_allowed _ _ (inl (omega arith)) (λ e. omega arith))
+pub returns-in_default : goal.returns-in_default
+returns-in_default c = first_wrong IsMagnitude c.args.s.now c.loop-i.i c.loop-i-test.true (begins c.loop-i.invariant) (not_allowed _ _ (inl (omega arith)) (λ e. omega arith))
 
-pub returns-in-default·2 : goal.returns-in-default·2
-returns-in-default·2 c = first_wrong IsMagnitude c.args.s.now c.loop-i.i c.loop-i-test.true (begins c.loop-i.invariant) (not_allowed _ _ (inr (omega arith)) (λ e. omega arith))
+pub returns-in_default-2 : goal.returns-in_default-2
+returns-in_default-2 c = first_wrong IsMagnitude c.args.s.now c.loop-i.i c.loop-i-test.true (begins c.loop-i.invariant) (not_allowed _ _ (inr (omega arith)) (λ e. omega arith))
 
 pub returns-then-point : goal.returns-then-point
 returns-then-point c = first_wrong IsMagnitude c.args.s.now c.loop-i.i c.loop-i-test.true (begins c.loop-i.invariant) (second_point _ (carry refl refl refl refl (sym c.if-point.true) c.loop-i.invariant) c.in-46.is)
 
-pub returns-then-digits-eq-NUMBER-DIGITS : goal.returns-then-digits-eq-NUMBER-DIGITS
-returns-then-digits-eq-NUMBER-DIGITS c = first_wrong IsMagnitude c.args.s.now c.loop-i.i c.loop-i-test.true (begins c.loop-i.invariant) (eleventh _ c.loop-i.invariant (omega arith) (omega arith) c.if-digits-eq-NUMBER-DIGITS.true)
+pub returns-then-digits-eq-NUMBER_DIGITS : goal.returns-then-digits-eq-NUMBER_DIGITS
+returns-then-digits-eq-NUMBER_DIGITS c = first_wrong IsMagnitude c.args.s.now c.loop-i.i c.loop-i-test.true (begins c.loop-i.invariant) (eleventh _ c.loop-i.invariant (omega arith) (omega arith) c.if-digits-eq-NUMBER_DIGITS.true)
 
 -- the invariant at the end, over the whole text
 all : (s : List ℕ) (i n ds fs : ℕ) (p : Bool) → length s ≤ i → Sofar (take i s) n ds fs p → Sofar s n ds fs p

@@ -11,6 +11,6 @@ returns-in-Entry g c =
     let fit : SFits w64 c.in-Entry.frame = search rules in
     let same = to_z-of_z w64 c.in-Entry.frame fit in
     record {
-      told = c.answer-of-in-Entry.ensures ∙ ap answer_of (simp same at c.enter.ensures.told) ∙ ap (λ (z : Call). answer_to s z) (sym c.in-Entry.is);
+      told = c.answer_of-in-Entry.ensures ∙ ap answer_of (simp same at c.enter.ensures.told) ∙ ap (λ (z : Call). answer_to s z) (sym c.in-Entry.is);
       left = (simp same at c.enter.ensures.left) ∙ ap (λ (z : Call). left_after s z) (sym c.in-Entry.is);
     }

@@ -7,9 +7,9 @@ loop-i-init g c = (none_done _ _ c.clear.ensures.items, (c.clear.ensures.len, om
 
 pub loop-i-preserved : goal.loop-i-preserved
 loop-i-preserved g c =
-    let ok = c.if-is-err.ensures.value in
+    let ok = c.if-is_err.ensures.value in
     let len : vec_len c.push.new.self ≡ vec_len c.loop-i.seen + 1 = not_failed c.push.result _ _ _ ok c.push.ensures.len in (
-      one_more _ _ _ c.args.calls.now c.loop-i.i _ _ (vec_items c.loop-i.seen) _ c.make-call-next.result c.loop-i-test.true refl c.loop-i.invariant.0 c.make-call-next.ensures.shown c.make-call-next.ensures.left (not_failed c.push.result _ _ _ ok c.push.ensures.items),
+      one_more _ _ _ c.args.calls.now c.loop-i.i _ _ (vec_items c.loop-i.seen) _ c.make_call-next.result c.loop-i-test.true refl c.loop-i.invariant.0 c.make_call-next.ensures.shown c.make_call-next.ensures.left (not_failed c.push.result _ _ _ ok c.push.ensures.items),
       (len ∙ ap (λ n. n + 1) c.loop-i.invariant.1.0, omega (arith, c.push.ensures.capacity, c.loop-i.invariant.1.1)),
     )
 

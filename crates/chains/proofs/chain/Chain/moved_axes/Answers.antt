@@ -4,6 +4,6 @@ use Rattle.chains.proofs.chain.Chain.moved_axes.Goals as goal
 
 pub returns : goal.returns
 returns c =
-    let e = axes_is (steps_of c.args.self.now) c.args.named c.reaches.result c.reaches-2.result c.reaches-3.result c.some-joins-xy.result c.some-joins-yz.result c.some-joins-zx.result
-    c.some-joins-xy.ensures c.some-joins-yz.ensures c.some-joins-zx.ensures c.reaches.ensures c.reaches-2.ensures c.reaches-3.ensures in
+    let e = axes_is (steps_of c.args.self.now) c.args.named c.reaches.result c.reaches-2.result c.reaches-3.result c.some_joins-xy.result c.some_joins-yz.result c.some_joins-zx.result
+    c.some_joins-xy.ensures c.some_joins-yz.ensures c.some_joins-zx.ensures c.reaches.ensures c.reaches-2.ensures c.reaches-3.ensures in
     record { told = e; moved = moved_as (steps_of c.args.self.now) c.args.named _ e }

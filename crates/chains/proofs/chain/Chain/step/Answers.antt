@@ -1,5 +1,5 @@
 use Rattle.std.proofs.Common.{◌≤◌, length, rules}
-use Rattle.chains.proofs.Listed.{step_past, step_at}
+use Rattle.chains.proofs.Listed.{step_past, step_at_lem}
 use Rattle.chains.proofs.chain.Chain.step.Goals as goal
 
 pub returns-then-n-self : goal.returns-then-n-self
@@ -10,4 +10,4 @@ returns-then-n-self c =
 pub returns : goal.returns
 returns c =
     let h : c.args.self.now.count ≤ length c.args.self.now.steps = search rules in
-    step_at c.args.self.now.steps c.args.self.now.count h c.args.n _ (search rules) (search rules)
+    step_at_lem c.args.self.now.steps c.args.self.now.count h c.args.n _ (search rules) (search rules)

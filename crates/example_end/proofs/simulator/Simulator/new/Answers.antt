@@ -1,5 +1,5 @@
 use Rattle.machine.specs.RangesLemmas.{origin_within}
 use Rattle.example_end.proofs.simulator.Simulator.new.Goals as goal
 
-pub invariant-of-result : goal.invariant-of-result
-invariant-of-result c = (origin_within _, tt)
+pub invariant_of-result : goal.invariant_of-result
+invariant_of-result c = (origin_within _, tt)

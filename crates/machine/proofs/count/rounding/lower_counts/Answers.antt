@@ -5,18 +5,18 @@ use Rattle.machine.specs.RangesLemmas.{on_axis_lem}
 use Rattle.machine.specs.Counts.{length_fits, counts_within}
 use Rattle.machine.proofs.count.rounding.lower_counts.Goals as goal
 
-pub lower-count-requires : goal.lower-count-requires
-lower-count-requires c =
+pub lower_count-requires : goal.lower_count-requires
+lower_count-requires c =
     let w = on_axis_lem _ c.args.to c.requires.placed X in
     record { size = length_fits c.args.increments c.requires.sized X; small = omega (arith, ints) }
 
-pub lower-count-requires-2 : goal.lower-count-requires-2
-lower-count-requires-2 c =
+pub lower_count-requires-2 : goal.lower_count-requires-2
+lower_count-requires-2 c =
     let w = on_axis_lem _ c.args.to c.requires.placed Y in
     record { size = length_fits c.args.increments c.requires.sized Y; small = omega (arith, ints) }
 
-pub lower-count-requires-3 : goal.lower-count-requires-3
-lower-count-requires-3 c =
+pub lower_count-requires-3 : goal.lower_count-requires-3
+lower_count-requires-3 c =
     let w = on_axis_lem _ c.args.to c.requires.placed Z in
     record { size = length_fits c.args.increments c.requires.sized Z; small = omega (arith, ints) }
 

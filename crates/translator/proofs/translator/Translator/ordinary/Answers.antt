@@ -8,6 +8,6 @@ returns-in-Some g c =
     let s = state_of g.E.MachineEnd.meaning c.args.self.now in
     let b = c.args.block.now in
     record {
-      told = c.move-axes.ensures.told ∙ ap (λ (o : Option ℕ). replied (ordinary_at s b o)) (sym c.in-Some.is);
-      left = c.move-axes.ensures.left ∙ ap (λ (o : Option ℕ). left_by s (ordinary_at s b o)) (sym c.in-Some.is);
+      told = c.move_axes.ensures.told ∙ ap (λ (o : Option ℕ). replied (ordinary_at s b o)) (sym c.in-Some.is);
+      left = c.move_axes.ensures.left ∙ ap (λ (o : Option ℕ). left_by s (ordinary_at s b o)) (sym c.in-Some.is);
     }

@@ -3,8 +3,8 @@ use Rattle.machine.specs.RangesLemmas.{same_bounds}
 use Rattle.translator.specs.State.{widest_low, widest_high}
 use Rattle.translator.proofs.translator.calls.widest_area.Goals as goal
 
-pub invariant-of-result : goal.invariant-of-result
-invariant-of-result c = (widest_low, (widest_high, tt))
+pub invariant_of-result : goal.invariant_of-result
+invariant_of-result c = (widest_low, (widest_high, tt))
 
 pub returns : goal.returns
 returns c = same_bounds _ _ refl refl

@@ -4,5 +4,5 @@ use mathlib.Core.List.{[]}
 use Rattle.machine.proofs.Taken.{taken_within}
 use Rattle.example_end.proofs.simulator.moves.SimulatorMachineEnd.take_move.Goals as goal
 
-pub invariant-of-self : goal.invariant-of-self
-invariant-of-self c = (taken_within c.args.self.now.bounds [] _ (sym c.in-ok-ask-move.ensures), tt)
+pub invariant_of-self : goal.invariant_of-self
+invariant_of-self c = (taken_within c.args.self.now.bounds [] _ (sym c.in_ok-ask_move.ensures), tt)
