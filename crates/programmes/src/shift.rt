@@ -29,7 +29,7 @@ pub fn shift_text<E: MachineEnd>(
     moves: &mut Roll<MoveRecord>,
     declines: &mut Roll<DeclineRecord>,
 ) -> WorkedText<E>
-    ensures worked { ShiftWorked (meaning end) tolerance text.now (roll_of moves.old) (roll_of declines.old) result.opening result.told (state_of meaning result.translator) (roll_of moves.new) (roll_of declines.new) }
+    ensures worked { ShiftWorked (E.meaning end) tolerance text.now (roll_of moves.old) (roll_of declines.old) result.opening result.told (state_of E.meaning result.translator) (roll_of moves.new) (roll_of declines.new) }
     ensures lent { moves.new.places.ghost_name ≡ moves.old.places.ghost_name }
     ensures also { declines.new.places.ghost_name ≡ declines.old.places.ghost_name }
 {

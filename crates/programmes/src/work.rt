@@ -83,7 +83,7 @@ fn work_lines<E: MachineEnd>(
     declines: &mut Roll<DeclineRecord>,
 ) -> Result<(), Fault>
     requires { length text.now ≤ 65536 }
-    ensures worked { LinesWorked (state_of meaning translator.old) (lines_of text.now) (roll_of moves.old) (roll_of declines.old) result (state_of meaning translator.new) (roll_of moves.new) (roll_of declines.new) }
+    ensures worked { LinesWorked (state_of E.meaning translator.old) (lines_of text.now) (roll_of moves.old) (roll_of declines.old) result (state_of E.meaning translator.new) (roll_of moves.new) (roll_of declines.new) }
     ensures lent { moves.new.places.ghost_name ≡ moves.old.places.ghost_name }
     ensures also { declines.new.places.ghost_name ≡ declines.old.places.ghost_name }
 {
@@ -108,7 +108,7 @@ pub fn work_text<E: MachineEnd>(
     moves: &mut Roll<MoveRecord>,
     declines: &mut Roll<DeclineRecord>,
 ) -> Result<(), Fault>
-    ensures worked { TextWorked (state_of meaning translator.old) text.now (roll_of moves.old) (roll_of declines.old) result (state_of meaning translator.new) (roll_of moves.new) (roll_of declines.new) }
+    ensures worked { TextWorked (state_of E.meaning translator.old) text.now (roll_of moves.old) (roll_of declines.old) result (state_of E.meaning translator.new) (roll_of moves.new) (roll_of declines.new) }
     ensures lent { moves.new.places.ghost_name ≡ moves.old.places.ghost_name }
     ensures also { declines.new.places.ghost_name ≡ declines.old.places.ghost_name }
 {

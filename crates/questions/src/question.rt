@@ -40,7 +40,7 @@ fn axis_number(axis: i64) -> u8
 }
 
 fn ask_limit<E: MachineEnd>(end: &E, level: usize, axis: u8, side: Side) -> Result<Told, Fault>
-    ensures { result ≡ limit_asked (meaning end.now) level axis side }
+    ensures { result ≡ limit_asked (E.meaning end.now) level axis side }
 {
     match end.limit(level, axis, side) {
         Ok(v) => Ok(Told::Limit(v)),
@@ -49,7 +49,7 @@ fn ask_limit<E: MachineEnd>(end: &E, level: usize, axis: u8, side: Side) -> Resu
 }
 
 fn ask_level<E: MachineEnd>(end: &E, level: i64, axis: u8, side: Side) -> Result<Told, Fault>
-    ensures { result ≡ level_asked (meaning end.now) level axis side }
+    ensures { result ≡ level_asked (E.meaning end.now) level axis side }
 {
     if level < 0 {
         return Err(Fault::Argument);
@@ -58,7 +58,7 @@ fn ask_level<E: MachineEnd>(end: &E, level: i64, axis: u8, side: Side) -> Result
 }
 
 fn ask_increment<E: MachineEnd>(end: &E, axis: u8) -> Result<Told, Fault>
-    ensures { result ≡ increment_asked (meaning end.now) axis }
+    ensures { result ≡ increment_asked (E.meaning end.now) axis }
 {
     match end.increment(axis) {
         Ok(n) => Ok(Told::Increment(n)),
@@ -67,7 +67,7 @@ fn ask_increment<E: MachineEnd>(end: &E, axis: u8) -> Result<Told, Fault>
 }
 
 fn ask_held<E: MachineEnd>(end: &E, axis: u8) -> Result<Told, Fault>
-    ensures { result ≡ held_asked (meaning end.now) axis }
+    ensures { result ≡ held_asked (E.meaning end.now) axis }
 {
     match end.held(axis) {
         Ok(v) => Ok(Told::Held(v)),
@@ -76,7 +76,7 @@ fn ask_held<E: MachineEnd>(end: &E, axis: u8) -> Result<Told, Fault>
 }
 
 fn ask_move<E: MachineEnd>(end: &E, to: Point) -> Result<Told, Fault>
-    ensures { result ≡ move_asked (meaning end.now) to }
+    ensures { result ≡ move_asked (E.meaning end.now) to }
 {
     match end.ask_move(to) {
         Ok(()) => Ok(Told::Taken),
@@ -86,7 +86,7 @@ fn ask_move<E: MachineEnd>(end: &E, to: Point) -> Result<Told, Fault>
 
 /// Asks any end; a question changes nothing. An axis or a level that is not there gets 17.
 pub fn ask<E: MachineEnd>(end: &E, question: Question) -> Result<Told, Fault>
-    ensures { result ≡ told_of (meaning end.now) question }
+    ensures { result ≡ told_of (E.meaning end.now) question }
 {
     match question {
         Question::Boxes => Ok(Told::Boxes(end.box_count())),

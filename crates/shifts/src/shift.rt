@@ -40,8 +40,8 @@ fn told_answer(told: Result<Told, Fault>) -> Answer
 }
 
 fn answer<E: MachineEnd>(translator: &mut Translator<E>, call: &Call) -> Answer
-    ensures told { result ≡ answer_to (state_of meaning translator.old) call.now }
-    ensures left { state_of meaning translator.new ≡ left_after (state_of meaning translator.old) call.now }
+    ensures told { result ≡ answer_to (state_of E.meaning translator.old) call.now }
+    ensures left { state_of E.meaning translator.new ≡ left_after (state_of E.meaning translator.old) call.now }
 {
     match call {
         Call::Block(bytes) => answer_of(translator.block(bytes)),
@@ -54,8 +54,8 @@ fn answer<E: MachineEnd>(translator: &mut Translator<E>, call: &Call) -> Answer
 
 /// Makes one call.
 pub fn make_call<E: MachineEnd>(translator: &mut Translator<E>, call: &Call) -> Seen
-    ensures shown { Shown (state_of meaning translator.old) call.now result }
-    ensures left { state_of meaning translator.new ≡ left_after (state_of meaning translator.old) call.now }
+    ensures shown { Shown (state_of E.meaning translator.old) call.now result }
+    ensures left { state_of E.meaning translator.new ≡ left_after (state_of E.meaning translator.old) call.now }
 {
     let answer = answer(translator, call);
     let reading = translator.read();
@@ -68,7 +68,7 @@ fn work<E: MachineEnd>(
     calls: &[Call],
     row: Vec<Seen>,
 ) -> Result<Vec<Seen>, AllocError>
-    ensures replies { IfOk result (λ seen. Replied (state_of meaning translator.old) calls.now seen.items (state_of meaning translator.new)) }
+    ensures replies { IfOk result (λ seen. Replied (state_of E.meaning translator.old) calls.now seen.items (state_of E.meaning translator.new)) }
     ensures room { length calls.now ≤ vec_capacity row → is_ok result ≡ true }
 {
     let mut seen = row;
@@ -91,9 +91,9 @@ pub fn shift<E: MachineEnd + Drop>(
     row: Vec<Seen>,
 ) -> Result<Worked<E>, AllocError>
     ensures room { length calls.now ≤ vec_capacity row → is_ok result ≡ true }
-    ensures opening { IfOk result (λ w. Tells (opened (meaning end) tolerance) w.opening) }
-    ensures replies { IfOk result (λ w. Replied (opened (meaning end) tolerance) calls.now w.seen.items (state_of meaning w.translator)) }
-    ensures law { IfOk result (λ w. Law (meaning end) tolerance calls.now w.opening w.seen.items) }
+    ensures opening { IfOk result (λ w. Tells (opened (E.meaning end) tolerance) w.opening) }
+    ensures replies { IfOk result (λ w. Replied (opened (E.meaning end) tolerance) calls.now w.seen.items (state_of E.meaning w.translator)) }
+    ensures law { IfOk result (λ w. Law (E.meaning end) tolerance calls.now w.opening w.seen.items) }
 {
     let mut translator = Translator::new(end, tolerance);
     let opening = translator.read();

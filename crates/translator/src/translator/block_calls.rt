@@ -51,8 +51,8 @@ fn reply_of(plan: Plan) -> Reply
 
 impl<E: MachineEnd> Translator<E> {
     fn change_frame(&mut self, change: FrameChange, place: usize) -> Result<Reply, Fault>
-        ensures told { result ≡ replied (obeyed (state_of meaning self.old) (Frame change place)) }
-        ensures left { state_of meaning self.new ≡ left_by (state_of meaning self.old) (obeyed (state_of meaning self.old) (Frame change place)) }
+        ensures told { result ≡ replied (obeyed (state_of E.meaning self.old) (Frame change place)) }
+        ensures left { state_of E.meaning self.new ≡ left_by (state_of E.meaning self.old) (obeyed (state_of E.meaning self.old) (Frame change place)) }
     {
         match self.setup.change_frame(change) {
             Ok(()) => Ok(still_at(&self.setup)),
@@ -66,8 +66,8 @@ impl<E: MachineEnd> Translator<E> {
         values: [Option<Length>; 3],
         place: usize,
     ) -> Result<Reply, Fault>
-        ensures told { result ≡ replied (obeyed (state_of meaning self.old) (Limit side values place)) }
-        ensures left { state_of meaning self.new ≡ left_by (state_of meaning self.old) (obeyed (state_of meaning self.old) (Limit side values place)) }
+        ensures told { result ≡ replied (obeyed (state_of E.meaning self.old) (Limit side values place)) }
+        ensures left { state_of E.meaning self.new ≡ left_by (state_of E.meaning self.old) (obeyed (state_of E.meaning self.old) (Limit side values place)) }
     {
         let _ = place;
         self.pile.write_limits(side, values);
@@ -76,8 +76,8 @@ impl<E: MachineEnd> Translator<E> {
 
     // The three targets go to the pile; only what it takes is stored.
     fn hand_over(&mut self, block: &Ordinary, plan: Plan, place: usize) -> Result<Reply, Fault>
-        ensures told { result ≡ replied (handed_over (state_of meaning self.old) block.now place plan) }
-        ensures left { state_of meaning self.new ≡ left_by (state_of meaning self.old) (handed_over (state_of meaning self.old) block.now place plan) }
+        ensures told { result ≡ replied (handed_over (state_of E.meaning self.old) block.now place plan) }
+        ensures left { state_of E.meaning self.new ≡ left_by (state_of E.meaning self.old) (handed_over (state_of E.meaning self.old) block.now place plan) }
     {
         match self.pile.take_move(point_of(plan.image)) {
             Ok(()) => {
@@ -89,8 +89,8 @@ impl<E: MachineEnd> Translator<E> {
     }
 
     fn move_axes(&mut self, block: &Ordinary, place: usize) -> Result<Reply, Fault>
-        ensures told { result ≡ replied (ordinary_at (state_of meaning self.old) block.now (Some place)) }
-        ensures left { state_of meaning self.new ≡ left_by (state_of meaning self.old) (ordinary_at (state_of meaning self.old) block.now (Some place)) }
+        ensures told { result ≡ replied (ordinary_at (state_of E.meaning self.old) block.now (Some place)) }
+        ensures left { state_of E.meaning self.new ≡ left_by (state_of E.meaning self.old) (ordinary_at (state_of E.meaning self.old) block.now (Some place)) }
     {
         match self.setup.plan(block) {
             Ok(plan) => self.hand_over(block, plan, place),
@@ -99,8 +99,8 @@ impl<E: MachineEnd> Translator<E> {
     }
 
     fn ordinary(&mut self, block: &Ordinary) -> Result<Reply, Fault>
-        ensures told { result ≡ replied (obeyed (state_of meaning self.old) (ordinary block.now)) }
-        ensures left { state_of meaning self.new ≡ left_by (state_of meaning self.old) (obeyed (state_of meaning self.old) (ordinary block.now)) }
+        ensures told { result ≡ replied (obeyed (state_of E.meaning self.old) (ordinary block.now)) }
+        ensures left { state_of E.meaning self.new ≡ left_by (state_of E.meaning self.old) (obeyed (state_of E.meaning self.old) (ordinary block.now)) }
     {
         match block.first {
             Some(place) => self.move_axes(block, place),
@@ -112,8 +112,8 @@ impl<E: MachineEnd> Translator<E> {
     }
 
     fn obey(&mut self, block: &Block) -> Result<Reply, Fault>
-        ensures told { result ≡ replied (obeyed (state_of meaning self.old) block.now) }
-        ensures left { state_of meaning self.new ≡ left_by (state_of meaning self.old) (obeyed (state_of meaning self.old) block.now) }
+        ensures told { result ≡ replied (obeyed (state_of E.meaning self.old) block.now) }
+        ensures left { state_of E.meaning self.new ≡ left_by (state_of E.meaning self.old) (obeyed (state_of E.meaning self.old) block.now) }
     {
         match block {
             Block::Frame { change, place } => self.change_frame(*change, *place),
@@ -127,8 +127,8 @@ impl<E: MachineEnd> Translator<E> {
     }
 
     fn run(&mut self, block: &Block) -> Result<Reply, Fault>
-        ensures told { result ≡ replied (running (state_of meaning self.old) (Ok block.now)) }
-        ensures left { state_of meaning self.new ≡ left_by (state_of meaning self.old) (running (state_of meaning self.old) (Ok block.now)) }
+        ensures told { result ≡ replied (running (state_of E.meaning self.old) (Ok block.now)) }
+        ensures left { state_of E.meaning self.new ≡ left_by (state_of E.meaning self.old) (running (state_of E.meaning self.old) (Ok block.now)) }
     {
         if self.setup.ended {
             return Err(Fault::Ended);
@@ -138,8 +138,8 @@ impl<E: MachineEnd> Translator<E> {
 
     /// Works a block: which axes it moved, with targets and spreads, or why it is declined; a declined block changes nothing.
     pub fn block(&mut self, bytes: &[u8]) -> Result<Reply, Fault>
-        ensures told { result ≡ replied (worked (state_of meaning self.old) bytes.now) }
-        ensures left { state_of meaning self.new ≡ left_by (state_of meaning self.old) (worked (state_of meaning self.old) bytes.now) }
+        ensures told { result ≡ replied (worked (state_of E.meaning self.old) bytes.now) }
+        ensures left { state_of E.meaning self.new ≡ left_by (state_of E.meaning self.old) (worked (state_of E.meaning self.old) bytes.now) }
     {
         match typed_block(bytes, is_inch(self.setup.modes.unit)) {
             Ok(block) => self.run(&block),

@@ -35,7 +35,7 @@ fn widest_area() -> Bounds
 impl<E: MachineEnd> Translator<E> {
     /// A translator over an end, with a work area as wide as can be on top of it.
     pub fn new(end: E, tolerance: Tolerance) -> Translator<E>
-        ensures { state_of meaning result ≡ opened (meaning end) tolerance }
+        ensures { state_of E.meaning result ≡ opened (E.meaning end) tolerance }
     {
         let held = held_position(&end);
         Translator {
@@ -46,7 +46,7 @@ impl<E: MachineEnd> Translator<E> {
 
     /// Targets with spreads, what the end holds, and the chain.
     pub fn read(&self) -> Reading
-        ensures { Tells (state_of meaning self.now) result }
+        ensures { Tells (state_of E.meaning self.now) result }
     {
         Reading {
             image: self.setup.image,
@@ -57,7 +57,7 @@ impl<E: MachineEnd> Translator<E> {
 
     /// The targets and spreads as a reply that moved nothing.
     pub fn reply(&self) -> Reply
-        ensures { result ≡ still (state_of meaning self.now).setup }
+        ensures { result ≡ still (state_of E.meaning self.now).setup }
     {
         still_at(&self.setup)
     }
@@ -71,8 +71,8 @@ impl<E: MachineEnd> Translator<E> {
 
     /// The offset of a settable frame, 1 to 6; a number out of range gets 17.
     pub fn enter(&mut self, frame: i64, offset: Point) -> Result<Reply, Fault>
-        ensures told { result ≡ replied (entered (state_of meaning self.old) frame offset) }
-        ensures left { state_of meaning self.new ≡ left_by (state_of meaning self.old) (entered (state_of meaning self.old) frame offset) }
+        ensures told { result ≡ replied (entered (state_of E.meaning self.old) frame offset) }
+        ensures left { state_of E.meaning self.new ≡ left_by (state_of E.meaning self.old) (entered (state_of E.meaning self.old) frame offset) }
     {
         match self.setup.enter(frame, offset) {
             Ok(()) => Ok(still_at(&self.setup)),
@@ -82,8 +82,8 @@ impl<E: MachineEnd> Translator<E> {
 
     /// Empties the chain, puts the starting functions back, opens all axes, and lets a programme begin anew.
     pub fn reset(&mut self) -> Reply
-        ensures told { result ≡ (afresh (state_of meaning self.old)).reply }
-        ensures left { state_of meaning self.new ≡ (afresh (state_of meaning self.old)).left }
+        ensures told { result ≡ (afresh (state_of E.meaning self.old)).reply }
+        ensures left { state_of E.meaning self.new ≡ (afresh (state_of E.meaning self.old)).left }
     {
         self.setup.reset();
         still_at(&self.setup)

@@ -12,7 +12,7 @@ pub invariant_of-div_nearest : goal.invariant_of-div_nearest
 invariant_of-div_nearest c =
     let f : SFits w64 c.times.result = search rules in
     let g : SFits w64 c.times-2.result = search rules in
-    (less_size c.times.result c.times-2.result f g c.times.ensures.size c.times-2.ensures.size, tt)
+    record { most = less_size c.times.result c.times-2.result f g c.times.ensures.size c.times-2.ensures.size }
 
 pub returns : goal.returns
 returns c =
