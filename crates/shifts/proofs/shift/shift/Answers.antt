@@ -7,9 +7,9 @@ use Rattle.shifts.proofs.shift.shift.Goals as goal
 pub returns-in-Ok : goal.returns-in-Ok
 returns-in-Ok g c =
     let m = g.E.MachineEnd.meaning c.args.end in
-    let o : Tells (opened m c.args.tolerance) c.read-opening.result = subst (λ (z : State). Tells z c.read-opening.result) c.new_translator.ensures c.read-opening.ensures in
+    let o : Tells (opened m c.args.tolerance) c.read-opening.result = subst (λ (z : State). Tells z c.read-opening.result) c.new-translator.ensures c.read-opening.ensures in
     let r : Replied (opened m c.args.tolerance) c.args.calls.now (vec_items c.in-Ok.seen) (state_of g.E.MachineEnd.meaning c.work.new.translator) =
-    subst (λ (z : State). Replied z c.args.calls.now (vec_items c.in-Ok.seen) (state_of g.E.MachineEnd.meaning c.work.new.translator)) c.new_translator.ensures c.in-Ok.ensures.replies in
+    subst (λ (z : State). Replied z c.args.calls.now (vec_items c.in-Ok.seen) (state_of g.E.MachineEnd.meaning c.work.new.translator)) c.new-translator.ensures c.in-Ok.ensures.replies in
     record {
       room = λ h. refl;
       opening = o;
