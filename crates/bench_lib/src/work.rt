@@ -49,8 +49,7 @@ fn work_lines<E: MachineEnd>(translator: &mut Translator<E>, text: &[u8], totals
 }
 
 /// Works the lines of a text as blocks of a new translator, and adds what they tell to the totals. False where the tolerance is out of range.
-#[unsafe(no_mangle)]
-pub extern "C" fn bench_work(text: &[u8], tolerance: u64, totals: &mut Totals) -> bool {
+pub fn bench_work(text: &[u8], tolerance: u64, totals: &mut Totals) -> bool {
     let Some(tolerance) = Tolerance::new(tolerance) else {
         return false;
     };
