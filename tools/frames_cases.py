@@ -1,7 +1,7 @@
 #!/usr/bin/env python3
 """Cases for crates/frames_tests, worked out from the rules with fractions and none of the product's own numbers.
 
-Run: python3 tools/frames_cases.py > crates/frames_tests/src/cases.rt
+Run: python3 tools/frames_cases.py > crates/frames_tests/src/cases.rt, then rt fmt in crates/frames_tests.
 The turn numbers here are the whole numbers nearest to 10^9 times the reference sine and cosine.
 """
 import random
@@ -219,7 +219,7 @@ for _ in range(16):
     case(steps, [rnd.randint(-END, END) for _ in range(3)], offset=[rnd.randint(-10**7, 10**7) for _ in range(3)], tolerance=rnd.choice([20, 100_000]))
 
 print("// Cases with the answers worked out by tools/frames_cases.py, with fractions. Answers: 0, coordinates, spreads; or the decline's number, axis and step.")
-print("use crate::Case;\nuse crate::MIRROR;\nuse crate::NONE;\nuse crate::OFFSET;\nuse crate::SCALE;\nuse crate::TURN;\n")
+print("use crate::{Case, MIRROR, NONE, OFFSET, SCALE, TURN};\n")
 print(f"pub const COUNT: usize = {len(ROWS)};\n")
 print("pub static CASES: [Case; COUNT] = [")
 print("\n".join(ROWS))

@@ -1,16 +1,9 @@
 -- The slots hold the words of a list.
-use Rattle.std.proofs.Common.{◌≡◌, ℕ, ◌+◌, Bool, true, false, cond, not, ◌&&◌, ◌||◌, eqb, leb, List, [], ◌∷◌, is_some, Some, None, Option, refl}
+use Rattle.std.proofs.Common.{◌≡◌, ℕ, List, ◌∷◌, is_some, refl}
 use Rattle.units.specs.declared.axis.Axis.{Axis}
 use Rattle.units.specs.declared.axis.Axis.TheVariants.{X, Y, Z}
-use Rattle.units.specs.declared.axis.Plane.{Plane as Planes}
-use Rattle.reader.specs.declared.functions.Motion.{Motion as Motions}
-use Rattle.reader.specs.declared.functions.Settable.{Settable as Settables}
-use Rattle.reader.specs.declared.functions.LengthUnit.{LengthUnit as Units}
-use Rattle.reader.specs.declared.functions.Distance.{Distance as Distances}
 use Rattle.reader.specs.declared.functions.GFunction.{GFunction}
 use Rattle.reader.specs.declared.functions.GFunction.TheVariants.{Motion, Plane, Settable, Machine, Unit as LengthsIn, Distance, Limit}
-use Rattle.reader.specs.declared.functions.MFunction.{MFunction}
-use Rattle.reader.specs.declared.functions.MFunction.TheVariants.{End, Other}
 use Rattle.reader.specs.declared.types.FrameName.{FrameName}
 use Rattle.reader.specs.declared.types.FrameName.TheVariants.{Trans, Rot, Scale, Mirror, Atrans, Arot, Ascale, Amirror}
 use Rattle.reader.specs.declared.types.Passed.{Passed}
@@ -18,14 +11,6 @@ use Rattle.reader.specs.declared.types.Passed.TheVariants.{F, S, T, D}
 use Rattle.reader.specs.declared.types.Said.{Said}
 use Rattle.reader.specs.declared.types.Said.TheVariants.{Name as s_name, Axis as s_axis, Rpl as s_rpl, G as s_g, M as s_m, N as s_n, Passed as s_passed}
 use Rattle.reader.specs.declared.types.Item.{Item}
-use Rattle.blocks.specs.declared.types.Selections.{Selections}
-use Rattle.blocks.specs.declared.gathered.Measured.{Measured}
-use Rattle.blocks.specs.declared.gathered.Names.{Names}
-use Rattle.blocks.specs.declared.gathered.Groups.{Groups}
-use Rattle.blocks.specs.declared.gathered.Axes.{Axes}
-use Rattle.blocks.specs.declared.gathered.Others.{Others}
-use Rattle.blocks.specs.declared.gathered.Ms.{Ms}
-use Rattle.blocks.specs.declared.gathered.Slots.{Slots}
 use Rattle.blocks.specs.Slots.{taken_name, taken_group, taken_axis, taken_passed, taken, put_said, put}
 use Rattle.blocks.specs.Found.{find, has, is_name, is_passed, axis_of, repeated_g, repeated, slots_of}
 

@@ -1,5 +1,5 @@
 -- What is gathered decides as the words do.
-use Rattle.std.proofs.Common.{◌≡◌, ℕ, ◌<◌, Bool, true, false, cond, ◌&&◌, ltb, ◌⊎◌, List, [], ◌∷◌, is_some, Some, None, Option, sym, refl, ap, ◌∙◌, subst, inl, inr, ⊎_elim, arith}
+use Rattle.std.proofs.Common.{◌≡◌, ℕ, ◌<◌, Bool, true, false, cond, ltb, List, [], ◌∷◌, is_some, Some, None, Option, sym, refl, ap, ◌∙◌, arith}
 use Rattle.std.specs.List.{AllByRecursion as All}
 use Rattle.std.proofs.lemmas.Bool.{false≢true}
 use Rattle.std.proofs.lemmas.Bool.Decides.{nat_tests}
@@ -9,13 +9,12 @@ use Rattle.reader.specs.declared.types.Number.{Number}
 use Rattle.reader.specs.declared.types.Said.{Said}
 use Rattle.reader.specs.declared.types.Said.TheVariants.{Name as s_name, Axis as s_axis, Rpl as s_rpl, G as s_g, M as s_m, N as s_n, Passed as s_passed}
 use Rattle.reader.specs.declared.types.Item.{Item}
-use Rattle.reader.proofs.Fronts.{split}
 use Rattle.blocks.specs.declared.gathered.Measured.{Measured}
 use Rattle.blocks.specs.declared.gathered.Measure.{Measure}
 use Rattle.blocks.specs.Slots.{over, hit, same_axis}
 use Rattle.blocks.specs.Found.{find, axis_of, rpl_of, slots_of, repeated, Unrepeated}
 use Rattle.blocks.specs.Order.{keep, leftmost, instruction, misplaced_by, order_of}
-use Rattle.blocks.specs.Rules.{misplaced, misplaced_in, unfit, measure, bad_axis, bad_rpl, bad, out_of_range_at, out_of_range_in, lesser, place_if, inch_in}
+use Rattle.blocks.specs.Rules.{unfit, measure, bad_axis, bad_rpl, bad, out_of_range_at, lesser, place_if, inch_in}
 use Rattle.blocks.specs.Typed.{ruled, made, judged, judged_in}
 use Rattle.blocks.specs.Gathers.{Rising}
 

@@ -1,13 +1,11 @@
 -- `block_of` means what the rules say.
-use Rattle.std.proofs.Common.{◌≡◌, ℕ, ◌<◌, ◌≤◌, Bool, true, false, cond, not, ◌&&◌, ◌||◌, eqb, leb, ◌⊎◌, List, [], ◌∷◌, ◌++◌, length, get_or, is_some, Some, None, Ok, Err, Option, Result, sym, refl, ap, ◌∙◌, subst, inl, inr, ⊎_elim, arith, MatchResult}
+use Rattle.std.proofs.Common.{◌≡◌, ℕ, ◌≤◌, Bool, true, false, cond, not, ◌&&◌, ◌||◌, ◌⊎◌, List, [], ◌∷◌, length, get_or, is_some, Some, None, Ok, Err, Option, Result, sym, refl, ap, ◌∙◌, subst, inl, inr, ⊎_elim, MatchResult}
 use Rattle.std.specs.List.{AllByRecursion as All}
 use Rattle.std.proofs.lemmas.Bool.{false≢true, cases_lt}
 use Rattle.units.specs.declared.axis.Axis.{Axis}
 use Rattle.units.specs.declared.axis.Axis.TheVariants.{X, Y, Z}
 use Rattle.units.specs.declared.fault.Fault.{Fault}
-use Rattle.units.specs.declared.fault.Fault.TheVariants.{TooLong, Repeated, Misplaced, Unfit, Range}
-use Rattle.units.specs.declared.quantity.Length.{Length}
-use Rattle.units.specs.declared.quantity.Factor.{Factor}
+use Rattle.units.specs.declared.fault.Fault.TheVariants.{TooLong, Repeated}
 use Rattle.units.specs.declared.quantity.Angle.{Angle}
 use Rattle.reader.specs.declared.types.Number.{Number}
 use Rattle.reader.specs.declared.types.Said.{Said}
@@ -25,16 +23,15 @@ use Rattle.blocks.specs.declared.gathered.Instruction.TheVariants.{Frame as a_fr
 use Rattle.blocks.specs.declared.gathered.Placed.{Placed}
 use Rattle.blocks.specs.declared.gathered.Measured.{Measured}
 use Rattle.blocks.specs.declared.gathered.Measure.{Measure}
-use Rattle.blocks.specs.declared.gathered.Measure.TheVariants.{Length as a_length, Factor as a_factor, Angle as an_angle, Any}
-use Rattle.blocks.specs.declared.types.Block.{Block}
+use Rattle.blocks.specs.declared.gathered.Measure.TheVariants.{Length as a_length, Factor as a_factor, Angle as an_angle}
 use Rattle.blocks.specs.Slots.{over, hit, axis_index, same_axis}
-use Rattle.blocks.specs.Found.{find, axis_of, rpl_of, repeated, Unrepeated, slots_of}
+use Rattle.blocks.specs.Found.{find, axis_of, rpl_of, repeated, slots_of}
 use Rattle.blocks.specs.Order.{keep, instruction, leftmost, misplaced_by, is_axis, order_of}
 use Rattle.blocks.specs.Measures.{length_in, factor_in, angle_in}
-use Rattle.blocks.specs.Rules.{misplaced, unfit, unfit_with, unfit_frame, unfit_by, unfit_under, measure, measure_frame, measure_by, measure_under, bad_axis, bad_rpl, bad, out_of_range_at, inch_in}
-use Rattle.blocks.specs.Typed.{length_at, factor_at, angle_at, or_zero, lengths, factors, step_of, change_by, made, made_by, made_under, ruled, judged}
+use Rattle.blocks.specs.Rules.{misplaced, unfit, unfit_with, unfit_frame, unfit_by, unfit_under, measure, measure_frame, measure_by, measure_under, bad_axis, bad, out_of_range_at, inch_in}
+use Rattle.blocks.specs.Typed.{length_at, factor_at, angle_at, or_zero, lengths, factors, step_of, change_by, made, made_by, made_under, ruled}
 use Rattle.blocks.specs.Block.{go_on, settle, conclude, block_of}
-use Rattle.blocks.specs.Meaning.{Among, SaysEach, Right, FirstFault, Leftmost, PassedBy, ValueOf, given, absent, Values, TurnOf, StepIs, Bare, ChangeIs, Tells, Reads, Means, too_long, wrong_word, misplaced_word, unfit_words, out_of_range, right_block, BlockStands}
+use Rattle.blocks.specs.Meaning.{Among, Right, FirstFault, Leftmost, PassedBy, ValueOf, given, absent, Values, TurnOf, StepIs, Bare, ChangeIs, Tells, Reads, Means, too_long, wrong_word, misplaced_word, unfit_words, out_of_range, right_block, BlockStands}
 use Rattle.blocks.proofs.Concluded.{short, too_long as is_too_long}
 
 some≢none : {X : Type 0} (v : X) → Some v ≡ None → ⊥

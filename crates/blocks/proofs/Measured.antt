@@ -1,14 +1,13 @@
 -- What the range tests give.
-use Rattle.std.proofs.Common.{◌≡◌, ℕ, suc, ◌+◌, ◌-◌, ◌*◌, ◌^◌, ◌<◌, ◌≤◌, Bool, true, false, cond, leb, ℤ, pos, negsuc, ◌+ℤ◌, ◌*ℤ◌, ◌<ℤ◌, Some, None, Option, sym, refl, ap, ◌∙◌, subst, ⊎_elim, arith, leb-true}
+use Rattle.std.proofs.Common.{◌≡◌, ℕ, suc, ◌+◌, ◌-◌, ◌*◌, ◌^◌, ◌<◌, ◌≤◌, true, false, cond, leb, ℤ, pos, negsuc, ◌+ℤ◌, ◌*ℤ◌, ◌<ℤ◌, None, Option, sym, ap, ◌∙◌, ⊎_elim, arith}
 use borrow.Author.Differences.{ints}
-use Rattle.std.proofs.lemmas.Bool.{false≢true}
 use Rattle.units.specs.declared.quantity.Length.{Length}
 use Rattle.units.specs.declared.quantity.Factor.{Factor}
 use Rattle.units.specs.declared.quantity.Angle.{Angle}
 use Rattle.units.specs.Quantities.{length_of, factor_of, angle_of}
 use Rattle.reader.specs.declared.types.Number.{Number}
 use Rattle.reader.proofs.Fronts.{split, le_yes, le_is}
-use Rattle.blocks.specs.Measures.{whole_factor, whole_angle, length_in, factor_in, angle_in}
+use Rattle.blocks.specs.Measures.{whole_factor, whole_angle, length_in}
 
 pub as_factor : (n : ℕ) (z : ℤ) (r : Option Factor) → r ≡ factor_of n → pos n ≡ z → r ≡ whole_factor z
 as_factor n z r e f = e ∙ ap whole_factor f

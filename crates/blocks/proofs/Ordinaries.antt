@@ -1,13 +1,11 @@
 -- A block without an instruction: 8 from the lengths that were made of its words.
-use Rattle.std.proofs.Common.{◌≡◌, ℕ, Bool, List, Some, None, Ok, Err, Option, Result, sym, refl, ap, ◌∙◌}
-use Rattle.units.specs.declared.fault.Fault.{Fault}
+use Rattle.std.proofs.Common.{◌≡◌, ℕ, Bool, List, Some, None, Ok, Err, Option, sym, refl, ap, ◌∙◌}
 use Rattle.units.specs.declared.fault.Fault.TheVariants.{Range}
 use Rattle.units.specs.declared.quantity.Length.{Length}
 use Rattle.blocks.specs.declared.gathered.Measure.{Measure}
 use Rattle.blocks.specs.declared.gathered.Measured.{Measured}
 use Rattle.blocks.specs.declared.gathered.Slots.{Slots}
 use Rattle.blocks.specs.declared.gathered.Order.{Order}
-use Rattle.blocks.specs.declared.types.Block.{Block}
 use Rattle.blocks.specs.declared.types.Block.TheVariants.{Ordinary}
 use Rattle.blocks.specs.Rules.{measure_under, bad_axis, bad_rpl, lesser, place_if, out_of_range_in}
 use Rattle.blocks.specs.Typed.{length_at, lengths, lacking_at, lacking_in, made_under, ruled}

@@ -1,8 +1,7 @@
 -- A value times a power of ten: where it fits, and where it is out of range.
-use Rattle.std.proofs.Common.{◌≡◌, ℕ, zero, suc, ◌+◌, ◌*◌, ◌^◌, ◌<◌, ◌≤◌, ℤ, pos, negsuc, ◌*ℤ◌, neg_ℤ, nat_abs, ◌≤ℤ◌, None, Option, sym, refl, ap, ◌∙◌, le_trans, le_of_eq, mul-le-mul, arith, lit≤, w64, SFits, to_z, of_z}
+use Rattle.std.proofs.Common.{◌≡◌, ℕ, zero, suc, ◌*◌, ◌^◌, ◌<◌, ◌≤◌, ℤ, pos, negsuc, ◌*ℤ◌, neg_ℤ, nat_abs, ◌≤ℤ◌, None, sym, refl, le_trans, le_of_eq, mul-le-mul, arith, lit≤, w64, SFits, to_z, of_z}
 use borrow.Author.Differences.{ints}
 use Rattle.std.proofs.lemmas.Int.{to_z-of_z}
-use Rattle.units.specs.declared.quantity.Length.{Length}
 use Rattle.units.specs.Quantities.{length_of}
 use Rattle.units.proofs.Ranged.{none_where}
 

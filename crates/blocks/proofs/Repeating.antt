@@ -1,9 +1,8 @@
 -- A word is repeated when as many earlier words have its address or group as may stand.
-use Rattle.std.proofs.Common.{◌≡◌, ℕ, ◌+◌, ◌≤◌, Bool, true, false, cond, ◌&&◌, ◌||◌, eqb, leb, ◌⊎◌, List, [], ◌∷◌, ◌++◌, is_some, Some, None, Option, sym, refl, ap, ◌∙◌, subst, inl, inr, ⊎_elim, zero-add, arith}
+use Rattle.std.proofs.Common.{◌≡◌, ℕ, ◌+◌, Bool, true, false, cond, ◌||◌, eqb, leb, ◌⊎◌, List, [], ◌∷◌, is_some, Some, None, Option, sym, refl, ap, ◌∙◌, inl, inr, ⊎_elim, zero-add, arith}
 use Rattle.std.specs.List.{AllByRecursion as All}
 use Rattle.std.proofs.lemmas.Bool.{false≢true}
 use Rattle.units.specs.declared.axis.Axis.{Axis}
-use Rattle.units.specs.declared.axis.Axis.TheVariants.{X, Y, Z}
 use Rattle.reader.specs.declared.functions.GFunction.{GFunction}
 use Rattle.reader.specs.declared.functions.GFunction.TheVariants.{Motion, Plane, Settable, Machine, Unit as LengthsIn, Distance, Limit}
 use Rattle.reader.specs.declared.types.FrameName.{FrameName}
@@ -14,14 +13,13 @@ use Rattle.reader.specs.declared.types.Number.{Number}
 use Rattle.reader.specs.declared.types.Said.{Said}
 use Rattle.reader.specs.declared.types.Said.TheVariants.{Name as s_name, Axis as s_axis, Rpl as s_rpl, G as s_g, M as s_m, N as s_n, Passed as s_passed}
 use Rattle.reader.specs.declared.types.Item.{Item}
-use Rattle.reader.proofs.Fronts.{split, le_yes}
+use Rattle.reader.proofs.Fronts.{le_yes}
 use Rattle.blocks.specs.declared.gathered.Instruction.{Instruction}
 use Rattle.blocks.specs.declared.gathered.Placed.{Placed}
-use Rattle.blocks.specs.declared.gathered.Measured.{Measured}
-use Rattle.blocks.specs.Slots.{over, hit, same_axis, axis_index}
+use Rattle.blocks.specs.Slots.{over, hit, same_axis}
 use Rattle.blocks.specs.Found.{find, has, is_name, is_passed, is_n, axis_of, rpl_of, g_of, motion_of, plane_of, settable_of, machine_of, unit_of, distance_of, is_limit, count_m, ends_m, repeated_g, repeated}
 use Rattle.blocks.specs.Order.{keep, instructs, placed, instruction}
-use Rattle.blocks.specs.Repeating.{kind, group_index, which, kin, count, most, is_end, Finds, FirstInstruction, Kinds}
+use Rattle.blocks.specs.Repeating.{group_index, kin, count, most, is_end, Finds, FirstInstruction, Kinds}
 use Rattle.blocks.proofs.Meaning.{find_none, find_some}
 
 -- one is there exactly when at least one is counted

@@ -1,5 +1,5 @@
 -- What the words up to a place say, turn by turn.
-use Rattle.std.proofs.Common.{◌≡◌, ℕ, zero, suc, ◌<◌, ◌≤◌, Bool, true, false, cond, ◌⊎◌, List, [], ◌∷◌, length, Ok, Err, Result, sym, refl, ap, ◌∙◌, subst, inl, inr, ⊎_elim, arith}
+use Rattle.std.proofs.Common.{◌≡◌, ℕ, zero, suc, ◌<◌, ◌≤◌, true, false, cond, List, ◌∷◌, length, Ok, Err, ap, ◌∙◌, ⊎_elim, arith}
 use Rattle.std.proofs.lemmas.Bool.{cases_lt}
 use Rattle.units.specs.declared.fault.Fault.{Fault}
 use Rattle.units.specs.declared.fault.Fault.TheVariants.{Repeated}
@@ -7,7 +7,7 @@ use Rattle.reader.specs.declared.types.Item.{Item}
 use Rattle.reader.specs.Runs.{IsRun}
 use Rattle.reader.specs.Pieces.{RunRead}
 use Rattle.reader.specs.Words.{ItemIs, Declined}
-use Rattle.reader.specs.WordList.{Run, starts, word_at, words}
+use Rattle.reader.specs.WordList.{starts, word_at, words}
 use Rattle.reader.specs.Reading.{reading}
 use Rattle.reader.proofs.Fronts.{split}
 use Rattle.reader.proofs.Listed.{words_on, words_read}

@@ -1,16 +1,14 @@
 -- What one turn over the words keeps, and where it stops.
-use Rattle.std.proofs.Common.{◌≡◌, ℕ, ◌+◌, ◌<◌, ◌≤◌, Bool, true, false, List, [], ◌∷◌, length, Ok, Err, sym, refl, ap, ◌∙◌, subst, arith}
+use Rattle.std.proofs.Common.{◌≡◌, ℕ, ◌<◌, ◌≤◌, Bool, true, false, List, [], ◌∷◌, length, Ok, sym, refl, ap, ◌∙◌, arith}
 use Rattle.std.specs.List.{AllByRecursion as All}
 use Rattle.std.proofs.ByRecursion.{All-weaker}
 use Rattle.units.specs.declared.fault.Fault.{Fault}
 use Rattle.units.specs.declared.fault.Fault.TheVariants.{Repeated}
 use Rattle.reader.specs.declared.types.Item.{Item}
-use Rattle.reader.specs.Pieces.{Ended, RunRead, CommentRead, ItemRead, DeclinedRead}
-use Rattle.reader.specs.Words.{ItemIs, Declined}
+use Rattle.reader.specs.Pieces.{Ended, CommentRead, ItemRead, DeclinedRead}
 use Rattle.reader.specs.WordList.{words as word_list}
 use Rattle.blocks.specs.declared.gathered.Slots.{Slots}
 use Rattle.blocks.specs.declared.gathered.Order.{Order}
-use Rattle.blocks.specs.declared.gathered.Gathered.{Gathered}
 use Rattle.blocks.specs.Slots.{taken, put}
 use Rattle.blocks.specs.Found.{slots_of, Unrepeated}
 use Rattle.blocks.specs.Order.{order_of, noted}

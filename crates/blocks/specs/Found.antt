@@ -1,5 +1,5 @@
 -- The words of a block by address and group. A list has the latest word first, so that its tail is the words before it.
-use Rattle.std.specs.Prelude.{◌≡◌, ℕ, ◌+◌, Bool, true, false, cond, not, ◌&&◌, ◌||◌, List, [], ◌∷◌, is_some, Some, None, Option, nat_le}
+use Rattle.std.specs.Prelude.{◌≡◌, ℕ, ◌+◌, Bool, true, false, ◌||◌, List, [], ◌∷◌, is_some, Some, None, Option, nat_le}
 use Rattle.units.specs.declared.axis.Axis.{Axis}
 use Rattle.units.specs.declared.axis.Axis.TheVariants.{X, Y, Z}
 use Rattle.units.specs.declared.axis.Plane.{Plane as Planes}
@@ -9,8 +9,6 @@ use Rattle.reader.specs.declared.functions.LengthUnit.{LengthUnit as Units}
 use Rattle.reader.specs.declared.functions.Distance.{Distance as Distances}
 use Rattle.reader.specs.declared.functions.GFunction.{GFunction}
 use Rattle.reader.specs.declared.functions.GFunction.TheVariants.{Motion, Plane, Settable, Machine, Unit as LengthsIn, Distance, Limit}
-use Rattle.reader.specs.declared.functions.MFunction.{MFunction}
-use Rattle.reader.specs.declared.functions.MFunction.TheVariants.{End, Other}
 use Rattle.reader.specs.declared.types.FrameName.{FrameName}
 use Rattle.reader.specs.declared.types.FrameName.TheVariants.{Trans, Rot, Scale, Mirror, Atrans, Arot, Ascale, Amirror}
 use Rattle.reader.specs.declared.types.Passed.{Passed}
@@ -18,13 +16,7 @@ use Rattle.reader.specs.declared.types.Passed.TheVariants.{F, S, T, D}
 use Rattle.reader.specs.declared.types.Said.{Said}
 use Rattle.reader.specs.declared.types.Said.TheVariants.{Name as s_name, Axis as s_axis, Rpl as s_rpl, G as s_g, M as s_m, N as s_n, Passed as s_passed}
 use Rattle.reader.specs.declared.types.Item.{Item}
-use Rattle.blocks.specs.declared.types.Selections.{Selections}
 use Rattle.blocks.specs.declared.gathered.Measured.{Measured}
-use Rattle.blocks.specs.declared.gathered.Names.{Names}
-use Rattle.blocks.specs.declared.gathered.Groups.{Groups}
-use Rattle.blocks.specs.declared.gathered.Axes.{Axes}
-use Rattle.blocks.specs.declared.gathered.Others.{Others}
-use Rattle.blocks.specs.declared.gathered.Ms.{Ms}
 use Rattle.blocks.specs.declared.gathered.Slots.{Slots}
 use Rattle.blocks.specs.Slots.{over, hit, same_name, same_axis, same_passed, ending}
 

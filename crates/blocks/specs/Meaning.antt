@@ -1,26 +1,21 @@
 -- What `block_of` means, as relations over the block's words.
-use Rattle.std.specs.Prelude.{◌≡◌, ℕ, ◌+◌, ◌<◌, ◌≤◌, Bool, true, false, cond, ◌&&◌, ◌||◌, ◌⊎◌, List, [], ◌∷◌, ◌++◌, length, is_some, Some, None, Ok, Err, Option, Result, slice_index_or}
+use Rattle.std.specs.Prelude.{◌≡◌, ℕ, ◌<◌, ◌≤◌, Bool, true, false, ◌⊎◌, List, [], ◌∷◌, ◌++◌, length, is_some, Some, None, Ok, Err, Option, Result, slice_index_or}
 use Rattle.std.specs.List.{AllByRecursion as All}
 use Rattle.units.specs.declared.axis.Axis.{Axis}
-use Rattle.units.specs.declared.axis.Axis.TheVariants.{X, Y, Z}
 use Rattle.units.specs.declared.fault.Fault.{Fault}
 use Rattle.units.specs.declared.fault.Fault.TheVariants.{TooLong, Repeated, Misplaced, Unfit, Range}
 use Rattle.units.specs.declared.quantity.Length.{Length}
 use Rattle.units.specs.declared.quantity.Factor.{Factor}
 use Rattle.units.specs.declared.quantity.Angle.{Angle}
-use Rattle.reader.specs.declared.functions.GFunction.{GFunction}
-use Rattle.reader.specs.declared.functions.GFunction.TheVariants.{Motion, Plane, Settable, Machine, Unit as LengthsIn, Distance, Limit as LimitG}
 use Rattle.reader.specs.declared.types.Number.{Number}
 use Rattle.reader.specs.declared.types.Said.{Said}
-use Rattle.reader.specs.declared.types.Said.TheVariants.{Name as s_name, Axis as s_axis, Rpl as s_rpl, G as s_g, M as s_m, N as s_n, Passed as s_passed}
+use Rattle.reader.specs.declared.types.Said.TheVariants.{Axis as s_axis, Rpl as s_rpl}
 use Rattle.reader.specs.declared.types.Item.{Item}
 use Rattle.reader.specs.WordList.{Run, words}
 use Rattle.reader.specs.Words.{ItemIs, Declined}
 use Rattle.blocks.specs.declared.gathered.StepKind.{StepKind}
 use Rattle.blocks.specs.declared.gathered.StepKind.TheVariants.{Offset as an_offset, Turn as a_turn, Scale as a_scale, Mirror as a_mirror}
-use Rattle.blocks.specs.declared.gathered.Instruction.{Instruction}
 use Rattle.blocks.specs.declared.gathered.Instruction.TheVariants.{Frame as a_frame, Limit as a_limit}
-use Rattle.blocks.specs.declared.gathered.Placed.{Placed}
 use Rattle.blocks.specs.declared.types.FrameStep.{FrameStep}
 use Rattle.blocks.specs.declared.types.FrameStep.TheVariants.{Offset, Turn, Scale, Mirror}
 use Rattle.blocks.specs.declared.types.FrameChange.{FrameChange}
@@ -28,9 +23,9 @@ use Rattle.blocks.specs.declared.types.FrameChange.TheVariants.{Empty, Replace, 
 use Rattle.blocks.specs.declared.types.Ordinary.{Ordinary}
 use Rattle.blocks.specs.declared.types.Block.{Block}
 use Rattle.blocks.specs.declared.types.Block.TheVariants.{Frame, Limit, Ordinary as an_ordinary}
-use Rattle.blocks.specs.Slots.{name_index, axis_index, passed_index}
+use Rattle.blocks.specs.Slots.{axis_index}
 use Rattle.blocks.specs.Found.{find, g_of, motion_of, plane_of, settable_of, machine_of, unit_of, distance_of, ends_m, axis_of, rpl_of, repeated, Unrepeated}
-use Rattle.blocks.specs.Order.{instructs, instruction, leftmost, misplaced_by, is_axis}
+use Rattle.blocks.specs.Order.{instruction, leftmost, misplaced_by, is_axis}
 use Rattle.blocks.specs.Measures.{length_in, factor_in, angle_in}
 use Rattle.blocks.specs.Rules.{unfit, measure, bad, inch_in}
 use Rattle.blocks.specs.Block.{block_of}

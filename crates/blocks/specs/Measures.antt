@@ -1,5 +1,5 @@
 -- A number as a length, a factor or an angle, where it is in range.
-use Rattle.std.specs.Prelude.{ℕ, suc, ◌-◌, ◌*◌, ◌^◌, Bool, true, false, cond, ℤ, pos, negsuc, ◌*ℤ◌, Some, None, Option, nat_le}
+use Rattle.std.specs.Prelude.{suc, ◌-◌, ◌*◌, ◌^◌, Bool, true, false, cond, ℤ, pos, negsuc, ◌*ℤ◌, None, Option, nat_le}
 use Rattle.std.proofs.Common.{lit<}
 use Rattle.units.specs.declared.quantity.Length.{Length}
 use Rattle.units.specs.declared.quantity.Factor.{Factor}

@@ -1,5 +1,5 @@
 -- What the order of the words decides: the leftmost word of each kind.
-use Rattle.std.specs.Prelude.{◌≡◌, ℕ, Bool, true, false, cond, ◌&&◌, List, [], ◌∷◌, is_some, Some, None, Option}
+use Rattle.std.specs.Prelude.{ℕ, Bool, true, false, cond, ◌&&◌, List, [], ◌∷◌, is_some, Some, None, Option}
 use Rattle.units.specs.declared.axis.Side.{Side}
 use Rattle.reader.specs.declared.functions.GFunction.{GFunction}
 use Rattle.reader.specs.declared.functions.GFunction.TheVariants.{Motion, Plane, Settable, Machine, Unit as LengthsIn, Distance, Limit as LimitG}
@@ -8,7 +8,6 @@ use Rattle.reader.specs.declared.types.FrameName.TheVariants.{Trans, Rot, Scale,
 use Rattle.reader.specs.declared.types.Said.{Said}
 use Rattle.reader.specs.declared.types.Said.TheVariants.{Name as s_name, Axis as s_axis, Rpl as s_rpl, G as s_g, M as s_m, N as s_n, Passed as s_passed}
 use Rattle.reader.specs.declared.types.Item.{Item}
-use Rattle.blocks.specs.declared.gathered.StepKind.{StepKind}
 use Rattle.blocks.specs.declared.gathered.StepKind.TheVariants.{Offset, Turn, Scale as Scaling, Mirror as Mirroring}
 use Rattle.blocks.specs.declared.gathered.Instruction.{Instruction}
 use Rattle.blocks.specs.declared.gathered.Instruction.TheVariants.{Frame, Limit}

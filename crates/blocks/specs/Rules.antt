@@ -1,5 +1,5 @@
 -- Declines 6, 7 and 8: over the words of a block, and over what is gathered of them.
-use Rattle.std.specs.Prelude.{◌≡◌, ℕ, Bool, true, false, cond, not, ◌&&◌, ◌||◌, List, [], ◌∷◌, is_some, Some, None, Option, nat_lt}
+use Rattle.std.specs.Prelude.{ℕ, Bool, true, false, cond, not, ◌&&◌, ◌||◌, List, is_some, Some, None, Option, nat_lt}
 use Rattle.reader.specs.declared.functions.LengthUnit.{LengthUnit}
 use Rattle.reader.specs.declared.functions.LengthUnit.TheVariants.{Inch, Millimetre}
 use Rattle.reader.specs.declared.types.Number.{Number}

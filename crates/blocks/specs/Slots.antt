@@ -1,12 +1,7 @@
 -- The slots of a block, and what a word does to them.
-use Rattle.std.specs.Prelude.{◌≡◌, ℕ, ◌+◌, Bool, true, false, cond, not, ◌&&◌, ◌||◌, List, [], ◌∷◌, is_some, Some, None, Option, ◌==◌, nat_le}
+use Rattle.std.specs.Prelude.{ℕ, ◌+◌, Bool, true, false, cond, ◌||◌, is_some, Some, None, Option, ◌==◌, nat_le}
 use Rattle.units.specs.declared.axis.Axis.{Axis}
 use Rattle.units.specs.declared.axis.Axis.TheVariants.{X, Y, Z}
-use Rattle.units.specs.declared.axis.Plane.{Plane as Planes}
-use Rattle.reader.specs.declared.functions.Motion.{Motion as Motions}
-use Rattle.reader.specs.declared.functions.Settable.{Settable as Settables}
-use Rattle.reader.specs.declared.functions.LengthUnit.{LengthUnit as Units}
-use Rattle.reader.specs.declared.functions.Distance.{Distance as Distances}
 use Rattle.reader.specs.declared.functions.GFunction.{GFunction}
 use Rattle.reader.specs.declared.functions.GFunction.TheVariants.{Motion, Plane, Settable, Machine, Unit as LengthsIn, Distance, Limit}
 use Rattle.reader.specs.declared.functions.MFunction.{MFunction}
@@ -18,7 +13,6 @@ use Rattle.reader.specs.declared.types.Passed.TheVariants.{F, S, T, D}
 use Rattle.reader.specs.declared.types.Said.{Said}
 use Rattle.reader.specs.declared.types.Said.TheVariants.{Name as s_name, Axis as s_axis, Rpl as s_rpl, G as s_g, M as s_m, N as s_n, Passed as s_passed}
 use Rattle.reader.specs.declared.types.Item.{Item}
-use Rattle.blocks.specs.declared.types.Selections.{Selections}
 use Rattle.blocks.specs.declared.gathered.Measured.{Measured}
 use Rattle.blocks.specs.declared.gathered.Names.{Names}
 use Rattle.blocks.specs.declared.gathered.Groups.{Groups}

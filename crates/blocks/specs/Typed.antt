@@ -1,11 +1,10 @@
 -- What a right block says.
-use Rattle.std.specs.Prelude.{◌≡◌, ℕ, Bool, true, false, cond, not, ◌||◌, List, [], ◌∷◌, is_some, Some, None, Ok, Err, Option, Result, slice_index_or}
+use Rattle.std.specs.Prelude.{ℕ, Bool, true, false, not, ◌||◌, List, [], ◌∷◌, is_some, Some, None, Ok, Err, Option, Result, slice_index_or}
 use Rattle.units.specs.declared.fault.Fault.{Fault}
 use Rattle.units.specs.declared.fault.Fault.TheVariants.{Misplaced, Unfit, Range}
 use Rattle.units.specs.declared.quantity.Length.{Length}
 use Rattle.units.specs.declared.quantity.Factor.{Factor}
 use Rattle.units.specs.declared.quantity.Angle.{Angle}
-use Rattle.reader.specs.declared.types.Number.{Number}
 use Rattle.reader.specs.declared.types.Item.{Item}
 use Rattle.blocks.specs.declared.gathered.StepKind.{StepKind}
 use Rattle.blocks.specs.declared.gathered.StepKind.TheVariants.{Offset as an_offset, Turn as a_turn, Scale as a_scale, Mirror as a_mirror}

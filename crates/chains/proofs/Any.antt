@@ -1,5 +1,5 @@
 -- The loop that looks for a step.
-use Rattle.std.proofs.Common.{◌≡◌, ℕ, suc, ◌+◌, ◌<◌, ◌≤◌, Bool, true, false, ◌||◌, List, [], ◌∷◌, length, get_or, take, drop, sym, refl, ap, ◌∙◌, add-one, arith, length-take-le, drop-cons, get_or-take}
+use Rattle.std.proofs.Common.{◌≡◌, ℕ, suc, ◌+◌, ◌<◌, ◌≤◌, Bool, true, false, ◌||◌, List, length, get_or, take, drop, sym, refl, ap, ◌∙◌, add-one, arith, length-take-le, drop-cons, get_or-take}
 use lib.Seq.{drop-length}
 use Rattle.chains.specs.declared.step.Step.{Step}
 use Rattle.chains.specs.Chains.{any_step}

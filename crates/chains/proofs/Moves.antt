@@ -1,11 +1,10 @@
 -- The computed set of axes is the relation.
-use Rattle.std.proofs.Common.{◌≡◌, ℕ, zero, suc, ◌+◌, ◌<◌, ◌≤◌, Bool, true, false, cond, ◌&&◌, ◌||◌, eqb, ◌⊎◌, List, [], ◌∷◌, get_or, sym, refl, ap, ◌∙◌, subst, subst₂, inl, inr, arith, lit<, eq-eqb, eqb-true}
+use Rattle.std.proofs.Common.{◌≡◌, ℕ, zero, suc, ◌<◌, Bool, true, false, ◌&&◌, ◌||◌, eqb, ◌⊎◌, List, [], ◌∷◌, get_or, sym, refl, ap, ◌∙◌, subst, inl, inr, arith, lit<, eq-eqb, eqb-true}
 use Rattle.units.specs.declared.axis.Plane.{Plane}
 use Rattle.units.specs.declared.axis.Plane.TheVariants.{Xy, Zx, Yz}
 use Rattle.chains.specs.declared.step.Step.{Step}
 use Rattle.chains.specs.declared.step.Step.TheVariants.{Offset, Scale, Mirror, Turn}
 use Rattle.chains.specs.Steps.{first_of, second_of, JoinsAxes}
-use Rattle.chains.specs.Chains.{any_step}
 use Rattle.chains.specs.Joined.{Joins, Moved, by_name, by_turn, AllJoined, next_axis, joins_next, linked, reached, moved_by, moved_axes, MovedAxes}
 use Rattle.chains.proofs.Any.{or_left, or_right}
 

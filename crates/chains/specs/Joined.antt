@@ -3,7 +3,7 @@ use Rattle.std.specs.Prelude.{◌≡◌, ℕ, zero, suc, ◌<◌, Bool, true, fa
 use Rattle.chains.specs.declared.step.Step.{Step}
 use Rattle.chains.specs.declared.step.Step.TheVariants.{Offset, Scale, Mirror, Turn}
 use Rattle.chains.specs.Chains.{any_step}
-use Rattle.chains.specs.Steps.{first_of, second_of, JoinsAxes}
+use Rattle.chains.specs.Steps.{first_of, JoinsAxes}
 
 -- some step joins the two axes
 abbrev pub Joins : List Step → ℕ → ℕ → Type 0

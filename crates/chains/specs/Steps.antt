@@ -1,5 +1,5 @@
 -- Steps: the axes of a plane, and which axes a step touches and joins. Axes go by index: X 0, Y 1, Z 2.
-use Rattle.std.specs.Prelude.{◌≡◌, ℕ, Bool, true, false, ◌||◌, ◌⊎◌, List, [], ◌∷◌, is_some, Some, None, Option, ◌==◌, slice_index_or}
+use Rattle.std.specs.Prelude.{◌≡◌, ℕ, Bool, false, ◌||◌, ◌⊎◌, is_some, None, ◌==◌, slice_index_or}
 use Rattle.units.specs.declared.axis.Plane.{Plane}
 use Rattle.units.specs.declared.axis.Plane.TheVariants.{Xy, Zx, Yz}
 use Rattle.chains.specs.declared.step.Step.{Step}

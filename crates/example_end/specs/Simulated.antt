@@ -1,5 +1,5 @@
 -- What the simulator means.
-use Rattle.std.specs.Prelude.{[], ◌∷◌, ℤ}
+use Rattle.std.specs.Prelude.{[], ◌∷◌}
 use Rattle.units.specs.declared.axis.Point.{Point}
 use Rattle.machine.specs.declared.bounds.Bounds.{Bounds}
 use Rattle.machine.specs.Meaning.{Meaning}

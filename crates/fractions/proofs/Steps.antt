@@ -1,9 +1,9 @@
 -- The two coordinates of an odd turn, and a scale, in fractions.
-use mathlib.Core.Path.{◌≡◌, refl, sym, ◌∙◌, ap, ap₂, subst, subst₂}
-use Prim.Native.Nat.{ℕ, zero, suc, ◌+◌, ◌-◌, ◌*◌, ◌/◌, ◌%◌, ◌≤◌, ◌<◌, max}
+use mathlib.Core.Path.{◌≡◌, refl, ◌∙◌, ap, ap₂, subst, subst₂}
+use Prim.Native.Nat.{ℕ, zero, suc, ◌+◌, ◌*◌, ◌%◌, ◌≤◌, ◌<◌, max}
 use native.Mathlib.Omega.{arith}
 use native.Mathlib.Nat.{mul-le-mul_right, le_trans, le_of_eq, mul_comm}
-use lib.IntN.{ℤ, pos, negsuc, ◌+ℤ◌, ◌-ℤ◌, ◌*ℤ◌, neg_ℤ, nat_abs}
+use lib.IntN.{ℤ, pos, ◌+ℤ◌, ◌-ℤ◌, ◌*ℤ◌, neg_ℤ, nat_abs}
 use borrow.Author.Differences.{ints}
 use Rattle.fractions.specs.Fractions.{Frac, Within, Equals, sum, difference, product, over, shifted, negated, one_if, ceiling}
 use Rattle.fractions.proofs.Ring.{is, is_pos, is_add, is_sub, is_neg, is_mul, is_by, is_same, abs_mul, abs_neg}

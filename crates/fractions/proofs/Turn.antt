@@ -1,9 +1,9 @@
 -- An odd turn.
-use mathlib.Core.Path.{◌≡◌, refl, sym, ◌∙◌, ap}
-use Prim.Native.Nat.{ℕ, zero, suc, ◌+◌, ◌-◌, ◌*◌, ◌/◌, ◌≤◌, ◌<◌, max}
+use mathlib.Core.Path.{◌≡◌, sym, ◌∙◌, ap}
+use Prim.Native.Nat.{ℕ, ◌+◌, ◌-◌, ◌*◌, ◌≤◌, ◌<◌, max}
 use native.Mathlib.Omega.{arith}
-use native.Mathlib.Nat.{mul-le-mul_right, mul-le-mul_left, mul-le-mul, le_of_mul-le-mul_right, le_of_mul-le-mul_left, mul-pos, le_trans, le_of_eq, lt-div-mul-add, le-max_left}
-use lib.IntN.{ℤ, pos, negsuc, ◌+ℤ◌, ◌-ℤ◌, ◌*ℤ◌, neg_ℤ, nat_abs}
+use native.Mathlib.Nat.{mul-le-mul_right, mul-le-mul_left, le_of_mul-le-mul_left, lt-div-mul-add, le-max_left}
+use lib.IntN.{ℤ, pos, ◌+ℤ◌, ◌-ℤ◌, ◌*ℤ◌, neg_ℤ, nat_abs}
 use borrow.Author.Differences.{ints}
 use Rattle.fractions.specs.Fractions.{ceiling}
 use Rattle.fractions.proofs.Ring.{is, is_pos, is_add, is_sub, is_neg, is_mul, is_same, abs_mul, abs_neg, abs_add, abs_sub}

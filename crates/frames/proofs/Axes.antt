@@ -1,5 +1,5 @@
 -- Loops over the three axes.
-use Rattle.std.proofs.Common.{◌≡◌, ℕ, zero, suc, ◌+◌, ◌<◌, ◌≤◌, Bool, true, false, cond, List, [], ◌∷◌, length, get_or, set, ℤ, Some, None, Option, sym, refl, ap, ◌∙◌, ap₂, add-one, arith}
+use Rattle.std.proofs.Common.{◌≡◌, ℕ, zero, suc, ◌+◌, ◌<◌, Bool, true, false, cond, List, [], ◌∷◌, length, get_or, set, ℤ, Some, None, refl, ap, ◌∙◌, ap₂, add-one, arith}
 use Rattle.units.specs.declared.axis.Axis.{Axis}
 use Rattle.chains.specs.declared.step.Step.{Step}
 use Rattle.frames.specs.declared.image.Image.{Image}

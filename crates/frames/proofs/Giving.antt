@@ -1,12 +1,12 @@
 -- Four quarter turns about an offset, and a mirror twice.
-use Rattle.std.proofs.Common.{◌≡◌, ℕ, zero, suc, ◌<◌, Bool, true, false, cond, ◌⊎◌, List, [], ◌∷◌, length, get_or, ℤ, pos, ◌+ℤ◌, neg_ℤ, Some, None, Option, sym, refl, ap, ◌∙◌, subst, ap₂, inl, inr, arith, lit<}
+use Rattle.std.proofs.Common.{◌≡◌, ℕ, Bool, true, false, cond, List, [], ◌∷◌, length, get_or, ℤ, Some, None, Option, sym, refl, ap, ◌∙◌, inl, inr, arith, lit<}
 use lib.IntN.{neg_ℤ-neg_ℤ}
 use borrow.Author.Differences.{ints}
 use Rattle.units.specs.declared.axis.Plane.{Plane}
 use Rattle.units.specs.declared.axis.Plane.TheVariants.{Xy, Zx, Yz}
 use Rattle.units.specs.declared.quantity.Length.{Length}
 use Rattle.chains.specs.declared.step.Step.{Step}
-use Rattle.chains.specs.declared.step.Step.TheVariants.{Offset, Mirror, Turn}
+use Rattle.chains.specs.declared.step.Step.TheVariants.{Offset, Mirror}
 use Rattle.chains.specs.Steps.{first_of, second_of}
 use Rattle.chains.specs.Joined.{AllJoined}
 use Rattle.frames.specs.declared.image.Image.{Image}

@@ -1,6 +1,6 @@
 -- How spreads grow where no scale enlarges.
-use Rattle.std.proofs.Common.{◌≡◌, ℕ, zero, suc, ◌+◌, ◌-◌, ◌*◌, ◌/◌, ◌%◌, ◌^◌, ◌<◌, ◌≤◌, max, Bool, true, false, cond, eqb, leb, List, [], ◌∷◌, get_or, ℤ, pos, ◌*ℤ◌, nat_abs, Some, None, Option, sym, refl, ap, ◌∙◌, subst, mul-le-mul_left, pow-suc, zero-add, one-add, arith, leb-false, leb-true}
-use native.Mathlib.Nat.{pow-zero, max-eq_left, max-eq_right}
+use Rattle.std.proofs.Common.{◌≡◌, ℕ, zero, suc, ◌+◌, ◌*◌, ◌/◌, ◌%◌, ◌^◌, ◌<◌, ◌≤◌, max, Bool, true, false, cond, eqb, leb, List, [], ◌∷◌, get_or, ℤ, pos, ◌*ℤ◌, nat_abs, Some, None, Option, sym, refl, ◌∙◌, subst, mul-le-mul_left, pow-suc, zero-add, one-add, arith, leb-false, leb-true}
+use native.Mathlib.Nat.{max-eq_left, max-eq_right}
 use Rattle.units.specs.declared.quantity.Factor.{Factor}
 use Rattle.units.specs.declared.quantity.Length.{Length}
 use Rattle.fractions.specs.Fractions.{ceiling, one_if}
@@ -8,7 +8,7 @@ use Rattle.chains.specs.declared.step.Step.{Step}
 use Rattle.chains.specs.declared.step.Step.TheVariants.{Offset, Scale, Mirror, Turn}
 use Rattle.chains.specs.Steps.{first_of, second_of}
 use Rattle.frames.specs.declared.image.Image.{Image}
-use Rattle.frames.specs.Pushing.{coordinate, spread_of, new_spread, moved_spread, through, carried, settable, started, scale_spread, odd_spread, scaled_spread, quarters_spread, quartered, turned_spread}
+use Rattle.frames.specs.Pushing.{coordinate, spread_of, new_spread, through, carried, settable, started, scale_spread, odd_spread, scaled_spread, quarters_spread, quartered}
 use Rattle.frames.specs.Theorems.{weight, weight_of, Modest, NotEnlarging, NoneEnlarges, Grown, AllInRange, Growth}
 use Rattle.frames.proofs.Passing.{through_spread, Ranged, carried_ranged, started_bounded}
 use Rattle.frames.proofs.Images.{first_below, second_below}

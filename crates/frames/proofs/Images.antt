@@ -1,18 +1,18 @@
 -- Nearness over the chain, by induction over the steps.
-use Rattle.std.proofs.Common.{◌≡◌, ℕ, zero, suc, ◌+◌, ◌*◌, ◌<◌, ◌≤◌, Bool, true, false, cond, eqb, ◌⊎◌, List, [], ◌∷◌, get_or, ℤ, pos, ◌-ℤ◌, ◌*ℤ◌, nat_abs, Some, None, Option, sym, refl, ap, ◌∙◌, subst, subst₂, inl, inr, mul-pos, arith, lit<, eqb-true}
+use Rattle.std.proofs.Common.{◌≡◌, ℕ, zero, suc, ◌<◌, Bool, true, false, cond, eqb, List, [], ◌∷◌, get_or, ℤ, Some, None, Option, sym, refl, ap, ◌∙◌, subst, subst₂, inl, inr, mul-pos, arith, lit<, eqb-true}
 use borrow.Author.Differences.{ints}
 use Rattle.units.specs.declared.axis.Plane.{Plane}
 use Rattle.units.specs.declared.axis.Plane.TheVariants.{Xy, Zx, Yz}
 use Rattle.units.specs.declared.quantity.Length.{Length}
 use Rattle.units.specs.declared.quantity.Factor.{Factor}
-use Rattle.fractions.specs.Fractions.{Frac, Within, over, shifted}
+use Rattle.fractions.specs.Fractions.{Frac, Within, over}
 use Rattle.turns.specs.Reference.{whole}
 use Rattle.chains.specs.declared.step.Step.{Step}
 use Rattle.chains.specs.declared.step.Step.TheVariants.{Offset, Scale, Mirror, Turn}
 use Rattle.chains.specs.Steps.{first_of, second_of, JoinsAxes}
-use Rattle.chains.specs.Joined.{Joins, AllJoined}
+use Rattle.chains.specs.Joined.{AllJoined}
 use Rattle.frames.specs.declared.image.Image.{Image}
-use Rattle.frames.specs.Pushing.{coordinate, spread_of, new_at, new_spread, moved_at, moved_spread, through, carried, settable, started, length_at, turned_first, turned_second, turned_spread}
+use Rattle.frames.specs.Pushing.{coordinate, spread_of, new_at, new_spread, through, carried, settable, started, length_at}
 use Rattle.frames.specs.Exact.{Exact, exact_at, exact_through, exact_image, exact_offset, exact_scale, exact_values, first_image, second_image}
 use Rattle.frames.specs.Theorems.{Near, Positive}
 use Rattle.frames.proofs.Nearness.{offset_near, scale_near, mirror_near}

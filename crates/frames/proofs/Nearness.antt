@@ -1,9 +1,8 @@
 -- Each step keeps told coordinates within their spreads of the exact ones.
-use Rattle.std.proofs.Common.{◌≡◌, ℕ, zero, suc, ◌+◌, ◌-◌, ◌*◌, ◌/◌, ◌%◌, ◌<◌, ◌≤◌, max, Bool, true, false, cond, eqb, List, [], ◌∷◌, get_or, ℤ, pos, negsuc, ◌+ℤ◌, ◌-ℤ◌, ◌*ℤ◌, neg_ℤ, nat_abs, Some, None, Option, sym, refl, ap, ◌∙◌, subst, ap₂, subst₂, le_trans, le_of_eq, mul-le-mul_right, mul-le-mul_left, mul-pos, arith, eqb-true}
-use native.Mathlib.Nat.{le-max_left, le-max_right, max_comm}
-use Rattle.units.specs.Nearest.{Nearest, nearest}
+use Rattle.std.proofs.Common.{ℕ, Bool, true, false, cond, ℤ, pos, ◌+ℤ◌, ◌-ℤ◌, ◌*ℤ◌, Some, None, Option, arith}
+use Rattle.units.specs.Nearest.{nearest}
 use Rattle.units.proofs.Round.{nearest_near}
-use Rattle.fractions.specs.Fractions.{Frac, Within, over, sum, difference, product, shifted, negated}
+use Rattle.fractions.specs.Fractions.{Frac, Within, negated}
 use Rattle.fractions.proofs.Steps.{first_within, second_within, scale_step, shift_within, mirror_within}
 use Rattle.turns.specs.Reference.{whole, cosine_of, sine_of}
 use Rattle.turns.specs.Numbers.{turn_c, turn_s}
@@ -11,7 +10,7 @@ use Rattle.turns.proofs.Law.{law}
 use Rattle.turns.proofs.Reach.{reach}
 use Rattle.units.specs.declared.quantity.Length.{Length}
 use Rattle.units.specs.declared.quantity.Factor.{Factor}
-use Rattle.frames.specs.Pushing.{odd_spread, scale_spread, offset_by, scaled_by, scaled_spread, mirrored_by, quarters_first, quarters_second, quarters_spread, quartered, odd_first, odd_second, turned_first, turned_second, turned_spread}
+use Rattle.frames.specs.Pushing.{odd_spread, offset_by, scaled_by, scaled_spread, mirrored_by, odd_first, odd_second}
 use Rattle.frames.specs.Exact.{exact_offset, exact_scale, first_image, second_image}
 
 pub offset_near : (by : Option Length) (x : ℤ) (e : Frac) (r : ℕ) → Within x e r → Within (offset_by by x) (exact_offset by e) r

@@ -1,11 +1,11 @@
 -- Turns: quarter turns are exact, odd ones near.
-use Rattle.std.proofs.Common.{◌≡◌, ℕ, zero, suc, ◌+◌, ◌-◌, ◌*◌, ◌/◌, ◌%◌, ◌<◌, ◌≤◌, max, Bool, true, false, cond, eqb, ℤ, pos, negsuc, ◌+ℤ◌, ◌-ℤ◌, ◌*ℤ◌, neg_ℤ, nat_abs, sym, refl, ap, ◌∙◌, subst, ap₂, subst₂, le_trans, le_of_eq, mul-le-mul_right, mul-le-mul_left, arith, eqb-true}
+use Rattle.std.proofs.Common.{◌≡◌, ℕ, zero, suc, ◌/◌, ◌%◌, ◌<◌, max, Bool, true, false, cond, ℤ, pos, negsuc, neg_ℤ, sym, refl, subst, arith, eqb-true}
 use native.Mathlib.Nat.{le-max_left, le-max_right}
 use borrow.Author.Differences.{ints}
 use Rattle.fractions.specs.Fractions.{Frac, Within, over, sum, difference, product}
 use Rattle.fractions.proofs.Units.{unit_first_as, unit_second_as}
 use Rattle.fractions.proofs.Steps.{wider}
-use Rattle.turns.specs.Reference.{whole, cosine_of, sine_of, quarters_cosine, quarters_sine, quarter_cosine, quarter_sine}
+use Rattle.turns.specs.Reference.{whole, quarters_cosine, quarters_sine, quarter_cosine, quarter_sine}
 use Rattle.frames.specs.Exact.{first_image, second_image}
 use Rattle.frames.specs.Pushing.{odd_spread, quarters_first, quarters_second, quarters_spread, quartered, odd_first, odd_second, turned_first, turned_second, turned_spread}
 use Rattle.frames.proofs.Nearness.{odd_first_lem, odd_second_lem}

@@ -1,5 +1,5 @@
 -- The exact image of a point: the same steps in fractions, with the reference sine and cosine, and no rounding. Axes go by index: X 0, Y 1, Z 2.
-use Rattle.std.specs.Prelude.{ℕ, zero, suc, ◌<◌, Bool, false, cond, List, [], ◌∷◌, get_or, ℤ, pos, Some, None, Option, ◌==◌, slice_index_or}
+use Rattle.std.specs.Prelude.{ℕ, false, cond, List, [], ◌∷◌, get_or, pos, Some, None, Option, ◌==◌, slice_index_or}
 use Rattle.units.specs.Quantities.{zero_length}
 use Rattle.units.specs.declared.quantity.Length.{Length}
 use Rattle.units.specs.declared.quantity.Factor.{Factor}

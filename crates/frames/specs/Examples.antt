@@ -1,16 +1,16 @@
 -- Worked examples as one fact about the definitions. Lengths are in units of 10 nm: 1 mm is 100,000.
-use Rattle.std.specs.Prelude.{◌≡◌, ℕ, zero, suc, ◌<◌, ◌≤◌, Bool, true, false, List, [], ◌∷◌, ℤ, pos, negsuc, Some, None, Ok, Err, Option, Result}
+use Rattle.std.specs.Prelude.{◌≡◌, ℕ, zero, suc, Bool, true, false, List, [], ◌∷◌, ℤ, pos, negsuc, Some, None, Ok, Err, Result}
 use Rattle.std.proofs.Common.{lit<, lit≤}
 use Rattle.units.specs.Quantities.{zero_length}
 use Rattle.units.specs.declared.axis.Axis.TheVariants.{X}
-use Rattle.units.specs.declared.axis.Plane.TheVariants.{Xy, Zx, Yz}
+use Rattle.units.specs.declared.axis.Plane.TheVariants.{Xy, Zx}
 use Rattle.units.specs.declared.quantity.Length.{Length}
 use Rattle.units.specs.declared.quantity.Factor.{Factor}
 use Rattle.units.specs.declared.quantity.Angle.{Angle}
 use Rattle.units.specs.declared.fault.Fault.{Fault}
 use Rattle.units.specs.declared.fault.Fault.TheVariants.{Spread}
 use Rattle.chains.specs.declared.step.Step.{Step}
-use Rattle.chains.specs.declared.step.Step.TheVariants.{Offset, Scale, Mirror, Turn}
+use Rattle.chains.specs.declared.step.Step.TheVariants.{Offset, Scale, Turn}
 use Rattle.chains.specs.Chains.{appended, left_by}
 use Rattle.frames.specs.declared.image.Image.{Image}
 use Rattle.frames.specs.Pushing.{pushed}

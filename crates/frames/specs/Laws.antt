@@ -1,5 +1,5 @@
 -- Chains that give back the point.
-use Rattle.std.specs.Prelude.{◌≡◌, ℕ, ◌<◌, Bool, List, [], ◌∷◌, length, ℤ, neg_ℤ, Some, None, Option, slice_index_or}
+use Rattle.std.specs.Prelude.{◌≡◌, ℕ, ◌<◌, Bool, List, [], ◌∷◌, length, neg_ℤ, Some, None, Option, slice_index_or}
 use Rattle.std.proofs.Common.{lit<}
 use Rattle.units.specs.declared.axis.Plane.{Plane}
 use Rattle.units.specs.declared.quantity.Length.{Length}

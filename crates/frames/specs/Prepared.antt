@@ -1,5 +1,5 @@
 -- What is worked out once for all axes of a turn.
-use Rattle.std.specs.Prelude.{◌≡◌, ℕ, Bool, true, false, List, Some, None, Option}
+use Rattle.std.specs.Prelude.{◌≡◌, ℕ, true, false, Some, None, Option}
 use Rattle.turns.specs.Numbers.{turn_c, turn_s}
 use Rattle.turns.specs.declared.numbers.TurnNumbers.{TurnNumbers}
 use Rattle.frames.specs.Pushing.{quartered}

@@ -1,6 +1,6 @@
 -- A line cut off a text at its first byte 10.
-use Rattle.std.proofs.Common.{◌≡◌, ℕ, zero, suc, ◌+◌, ◌-◌, ◌<◌, ◌≤◌, eqb, List, [], ◌∷◌, ◌++◌, length, get_or, take, drop, sym, refl, ap, ◌∙◌, subst, inl, inr, ⊎_elim, arith, take-append-drop, length-take, drop-cons, get_or-take}
-use Rattle.std.proofs.lemmas.List.{take_rest, get_or-drop, length-take-le, length-drop, take_all, drop-drop, drop_all}
+use Rattle.std.proofs.Common.{◌≡◌, ℕ, suc, ◌+◌, ◌-◌, ◌<◌, ◌≤◌, eqb, List, [], ◌∷◌, ◌++◌, length, get_or, take, drop, sym, refl, ap, ◌∙◌, subst, inl, inr, ⊎_elim, arith, take-append-drop, length-take, drop-cons, get_or-take}
+use Rattle.std.proofs.lemmas.List.{take_rest, get_or-drop, length-drop, take_all, drop-drop, drop_all}
 use Rattle.std.proofs.lemmas.Bool.{cond-false, ne_eqb, cases_lt}
 use Rattle.lines.specs.Lines.{before, lines_of, NoEnd, LineRead}
 

@@ -1,5 +1,5 @@
 -- The reply as a function says what the relations say.
-use Rattle.std.proofs.Common.{◌≡◌, ℕ, zero, suc, ◌+◌, ◌<◌, ◌≤◌, min, Bool, true, false, cond, ◌||◌, List, [], ◌∷◌, ℤ, ◌≤ℤ◌, Ok, Err, Result, sym, refl, ap, ◌∙◌, subst, add-one, arith}
+use Rattle.std.proofs.Common.{◌≡◌, ℕ, zero, suc, ◌+◌, ◌<◌, Bool, true, false, cond, ◌||◌, List, [], ◌∷◌, ℤ, ◌≤ℤ◌, Ok, Err, Result, sym, refl, ap, ◌∙◌, subst, add-one, arith}
 use lib.Signed.{lt_z}
 use Rattle.std.proofs.lemmas.Int.{ints}
 use Rattle.units.specs.Faults.{axis_number}
@@ -7,11 +7,11 @@ use Rattle.units.specs.declared.axis.Axis.{Axis}
 use Rattle.units.specs.declared.axis.Axis.TheVariants.{X, Y, Z}
 use Rattle.units.specs.declared.axis.Point.{Point}
 use Rattle.units.specs.declared.fault.Fault.{Fault}
-use Rattle.units.specs.declared.fault.Fault.TheVariants.{Outside, Argument}
+use Rattle.units.specs.declared.fault.Fault.TheVariants.{Outside}
 use Rattle.machine.specs.declared.bounds.Bounds.{Bounds}
-use Rattle.machine.specs.Meaning.{at, Every, Meaning}
-use Rattle.machine.specs.Replies.{Reply, beyond, out, depth, told, outside, reply, reply_to, box_at}
-use Rattle.machine.specs.Standing.{Inside, InsideAll, FirstOutside, Declines, Replies, RepliesStand}
+use Rattle.machine.specs.Meaning.{at}
+use Rattle.machine.specs.Replies.{beyond, out, depth, told, outside, reply, box_at}
+use Rattle.machine.specs.Standing.{Inside, InsideAll, FirstOutside, Declines, RepliesStand}
 use Rattle.machine.proofs.Taken.{taken_axis_lem}
 
 between : (lo hi v : ℤ) → (lt_z v lo || lt_z hi v) ≡ false → (lo ≤ℤ v) × (v ≤ℤ hi)

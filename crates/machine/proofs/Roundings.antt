@@ -1,12 +1,12 @@
 -- The roundings are the nearest numbers, and the only ones.
-use Rattle.std.proofs.Common.{◌≡◌, ℕ, zero, suc, ◌+◌, ◌-◌, ◌*◌, ◌/◌, ◌%◌, ◌<◌, ◌≤◌, ℤ, pos, negsuc, ◌-ℤ◌, ◌*ℤ◌, neg_ℤ, nat_abs, ◌≤ℤ◌, ◌<ℤ◌, sym, refl, ap, ◌∙◌, subst, mul-le-mul_right, arith}
+use Rattle.std.proofs.Common.{◌≡◌, ℕ, zero, suc, ◌+◌, ◌-◌, ◌*◌, ◌/◌, ◌%◌, ◌<◌, ◌≤◌, ℤ, pos, negsuc, ◌-ℤ◌, ◌*ℤ◌, neg_ℤ, nat_abs, ◌≤ℤ◌, ◌<ℤ◌, mul-le-mul_right, arith}
 use native.Mathlib.Nat.{div-add-mod}
 use borrow.Author.Differences.{ints}
 use Rattle.std.proofs.lemmas.Int.{by_lt_z}
-use Rattle.units.specs.Nearest.{Nearest, nearest}
+use Rattle.units.specs.Nearest.{nearest}
 use Rattle.units.proofs.Round.{nearest_near, nearest_is}
 use Rattle.machine.specs.Count.{lower_count, standing}
-use Rattle.machine.specs.Standing.{NearestBelow, Roundings, RoundingsStand}
+use Rattle.machine.specs.Standing.{NearestBelow, RoundingsStand}
 use Rattle.machine.specs.Counts.{count_near}
 
 -- at a tie above zero, the lower count stands below

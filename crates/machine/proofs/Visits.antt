@@ -4,7 +4,6 @@ use Rattle.std.proofs.lemmas.List.{take_more}
 use Rattle.units.specs.declared.axis.Point.{Point}
 use Rattle.units.specs.declared.fault.Fault.{Fault}
 use Rattle.machine.specs.declared.bounds.Bounds.{Bounds}
-use Rattle.machine.specs.declared.visit.Visit.{Visit}
 use Rattle.machine.specs.Meaning.{Meaning, origin}
 use Rattle.machine.specs.Replies.{Reply, reply, reply_to, moved, after_move}
 use Rattle.machine.specs.Visits.{after_moves, Visited}

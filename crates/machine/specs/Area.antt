@@ -1,5 +1,5 @@
 -- A work area's own box, rewritten on one side.
-use Rattle.std.specs.Prelude.{◌≡◌, ℕ, ◌≤◌, Bool, true, false, ◌&&◌, List, ℤ, Some, None, Option, nat_le, slice_index_or, unsigned_abs}
+use Rattle.std.specs.Prelude.{◌≡◌, true, List, ℤ, Some, None, Option, nat_le, slice_index_or, unsigned_abs}
 use Rattle.std.proofs.Math.Bool.{and-eq-true_iff}
 use Rattle.std.proofs.Common.{arith, le-leb}
 use Rattle.units.specs.declared.axis.Point.{Point}

@@ -1,5 +1,5 @@
 -- How a layer joins what its own box says to a move with what the end below says.
-use Rattle.std.specs.Prelude.{◌≡◌, ℕ, ◌+◌, cond, List, [], ◌∷◌, Ok, Err, nat_lt}
+use Rattle.std.specs.Prelude.{◌≡◌, ◌+◌, cond, List, [], ◌∷◌, Ok, Err, nat_lt}
 use Rattle.units.specs.declared.axis.Point.{Point}
 use Rattle.units.specs.declared.fault.Fault.{Fault}
 use Rattle.units.specs.declared.fault.Fault.TheVariants.{TooLong, Byte, Shape, Unknown, Repeated, Misplaced, Unfit, Range, Ended, ChainFull, IncrementalMachine, Open, Beyond, Spread, Outside, RollFull, Argument}

@@ -1,5 +1,5 @@
 -- The ranges of limits, positions and increments, as tests that a type can carry.
-use Rattle.std.specs.Prelude.{ℕ, Bool, ◌&&◌, ℤ, nat_le, unsigned_abs}
+use Rattle.std.specs.Prelude.{ℕ, Bool, ◌&&◌, nat_le, unsigned_abs}
 use Rattle.units.specs.declared.axis.Point.{Point}
 
 -- every coordinate is at most n either way

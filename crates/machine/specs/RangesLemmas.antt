@@ -1,5 +1,5 @@
 -- What the range tests say, axis by axis; a box is determined by its limits.
-use Rattle.std.specs.Prelude.{◌≡◌, ℕ, ◌≤◌, Bool, true, false, ◌&&◌, ℤ, pos, nat_le, unsigned_abs, refl}
+use Rattle.std.specs.Prelude.{◌≡◌, ℕ, ◌≤◌, Bool, true, ◌&&◌, nat_le, unsigned_abs}
 use Rattle.std.proofs.Common.{sym, subst, arith, leb-true, le-leb}
 use Rattle.std.proofs.Math.Bool.{and-eq-true_iff, Bool-set}
 use Rattle.units.specs.declared.axis.Axis.{Axis}

@@ -1,5 +1,5 @@
 -- What an end replies to a move and to a question, and what a move leaves.
-use Rattle.std.specs.Prelude.{ℕ, zero, suc, ◌+◌, min, Bool, true, false, cond, ◌||◌, List, [], ◌∷◌, length, ℤ, Ok, Err, Result, ◌==◌, int_lt}
+use Rattle.std.specs.Prelude.{ℕ, zero, suc, ◌+◌, min, Bool, false, cond, ◌||◌, List, [], ◌∷◌, length, ℤ, Ok, Err, Result, ◌==◌, int_lt}
 use Rattle.units.specs.declared.axis.Axis.{Axis}
 use Rattle.units.specs.declared.axis.Axis.TheVariants.{X, Y, Z}
 use Rattle.units.specs.declared.axis.Side.{Side}

@@ -1,5 +1,5 @@
 -- Several moves of an end, one after another.
-use Rattle.std.specs.Prelude.{◌≡◌, ℕ, ◌<◌, ◌≤◌, List, [], ◌∷◌, length, take, Ok, Err, slice_index_or}
+use Rattle.std.specs.Prelude.{◌≡◌, ℕ, ◌<◌, List, [], ◌∷◌, length, take, Ok, Err, slice_index_or}
 use Rattle.units.specs.declared.axis.Point.{Point}
 use Rattle.machine.specs.Meaning.{Meaning, origin}
 use Rattle.machine.specs.Replies.{Reply, reply_to, after_move}

@@ -1,6 +1,6 @@
 -- Levels and numbers of boxes beyond what is told, over lists of that length.
 use Rattle.std.specs.Prelude.{◌≡◌, ℕ, true, List, [], ◌∷◌, ◌++◌, length, replicate, ℤ, pos, negsuc, Ok, Err, refl}
-use Rattle.units.specs.declared.axis.Axis.TheVariants.{X, Y, Z}
+use Rattle.units.specs.declared.axis.Axis.TheVariants.{X, Y}
 use Rattle.units.specs.declared.axis.Point.{Point}
 use Rattle.units.specs.declared.fault.Fault.TheVariants.{Outside}
 use Rattle.machine.specs.declared.bounds.Bounds.{Bounds}

@@ -1,17 +1,17 @@
 -- A well-shaped word has no byte that is not allowed; an N word is well shaped.
-use Rattle.std.proofs.Common.{◌≡◌, ℕ, zero, suc, ◌+◌, ◌-◌, ◌<◌, ◌≤◌, Bool, true, false, cond, ◌||◌, eqb, ◌⊎◌, List, [], ◌∷◌, map, length, get_or, take, drop, sym, refl, ap, ◌∙◌, subst, inl, inr, ⊎_elim, arith, length-drop}
-use Rattle.std.specs.Char.{is_ascii_alphanumeric, is_ascii_digit, is_ascii_alphabetic, to_ascii_uppercase}
+use Rattle.std.proofs.Common.{◌≡◌, ℕ, zero, suc, ◌+◌, ◌-◌, ◌<◌, Bool, true, false, cond, ◌||◌, List, [], ◌∷◌, map, length, get_or, take, drop, sym, refl, ap, ◌∙◌, subst, ⊎_elim, arith, length-drop}
+use Rattle.std.specs.Char.{is_ascii_digit, is_ascii_alphabetic, to_ascii_uppercase}
 use Rattle.std.specs.List.{prefix_len, AllByRecursion as All}
 use Rattle.std.proofs.ByRecursion.{All-weaker}
 use Rattle.std.proofs.lemmas.List.{get_or-drop}
-use Rattle.std.proofs.lemmas.Bool.{cases_lt, or_left, or_right}
+use Rattle.std.proofs.lemmas.Bool.{cases_lt}
 use Rattle.std.proofs.lemmas.Bool.Decides.{nat_tests}
 use Rattle.reader.specs.declared.types.Address.{Address}
 use Rattle.reader.specs.declared.types.Address.TheVariants.{N as at_n, G as at_g, M as at_m, Passed as at_passed, Axis as at_axis, Rpl as at_rpl, Name as at_name}
 use Rattle.reader.specs.declared.types.Passed.{Passed}
 use Rattle.reader.specs.declared.types.Passed.TheVariants.{F, S, T, D}
-use Rattle.reader.specs.Shapes.{is_point, is_sign, IsMagnitude, IsNumber, IsCode, IsTurn, unsigned}
-use Rattle.reader.specs.Words.{in_word, Clean, letters_of, tail_of, Addressed, FollowsPassed, Follows}
+use Rattle.reader.specs.Shapes.{is_point, is_sign, IsMagnitude, IsNumber, IsCode, IsTurn}
+use Rattle.reader.specs.Words.{in_word, Clean, letters_of, tail_of, FollowsPassed, Follows}
 use Rattle.reader.specs.Following.{NWord}
 use Rattle.reader.proofs.Fronts.{split}
 use Rattle.reader.proofs.Listed.{leading_is, leading_all}

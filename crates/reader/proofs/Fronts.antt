@@ -1,8 +1,8 @@
 -- The tests of the shapes say what the shapes say.
-use Rattle.std.proofs.Common.{◌≡◌, ℕ, zero, suc, ◌+◌, ◌<◌, ◌≤◌, Bool, true, false, cond, ◌&&◌, ◌||◌, T, eqb, leb, ◌⊎◌, List, [], ◌∷◌, ◌++◌, length, take, drop, count_by, filter, sym, refl, ap, ◌∙◌, subst, inl, inr, ⊎_elim, append_assoc, append-nil, add-one, arith, le→leb, eqb→eq, leb→le}
+use Rattle.std.proofs.Common.{◌≡◌, ℕ, zero, suc, ◌+◌, ◌<◌, ◌≤◌, Bool, true, false, cond, ◌&&◌, ◌||◌, T, eqb, leb, ◌⊎◌, List, [], ◌∷◌, ◌++◌, length, take, count_by, sym, refl, ap, ◌∙◌, subst, inl, inr, ⊎_elim, append_assoc, append-nil, arith, le→leb, eqb→eq, leb→le}
 use Rattle.std.specs.Char.{is_ascii_digit}
 use Rattle.std.specs.List.{AllByRecursion as All}
-use Rattle.std.proofs.lemmas.List.{length-append, length_push, take_all}
+use Rattle.std.proofs.lemmas.List.{length-append, take_all}
 use Rattle.std.proofs.lemmas.List.Elements.{filter-append}
 use Rattle.std.proofs.ByRecursion.{All-push}
 use Rattle.std.proofs.lemmas.List.Sums.{sum_by-append}
@@ -14,7 +14,7 @@ use Rattle.reader.specs.declared.types.Passed.TheVariants.{F, S, T as at_t, D}
 use Rattle.reader.specs.Shapes.{is_point, is_sign, digits, IsMagnitude, IsNumber, IsCode, IsTurn, Begins, FirstWrong, unsigned}
 use Rattle.reader.specs.Words.{FollowsPassed, Follows}
 use Rattle.reader.specs.Reading.{longest, every, ok_code, is_code, ok_magnitude, is_magnitude, ok_number, is_number, ok_turn, is_turn, is_none, ok_passed, fits_passed, ok, fits}
-use Rattle.reader.proofs.Shapes.{Code, code_begins}
+use Rattle.reader.proofs.Shapes.{code_begins}
 
 pub split : (b : Bool) → (b ≡ true) ⊎ (b ≡ false)
 split true = inl refl

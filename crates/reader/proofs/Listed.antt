@@ -3,10 +3,10 @@ use Rattle.std.proofs.Common.{◌≡◌, ℕ, zero, suc, ◌+◌, ◌-◌, ◌<�
 use Rattle.std.specs.List.{prefix_len}
 use Rattle.std.proofs.lemmas.List.{get_or-drop}
 use Rattle.std.proofs.lemmas.List.Sums.{prefix_len-le-length}
-use Rattle.std.proofs.lemmas.Bool.{cases_lt, cases_eq, false≢true}
+use Rattle.std.proofs.lemmas.Bool.{cases_lt, false≢true}
 use Rattle.reader.specs.Runs.{Stop, Plain, IsRun}
 use Rattle.reader.specs.Pieces.{RunRead}
-use Rattle.reader.specs.WordList.{Run, is_stop, plain, opens, starts, word_at, words}
+use Rattle.reader.specs.WordList.{is_stop, plain, opens, starts, word_at, words}
 
 -- no word begins inside another
 none_inside : (bs : List ℕ) (s e p q : ℕ) → IsRun bs p q → IsRun bs s e → p < s → s < q → ⊥

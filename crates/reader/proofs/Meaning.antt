@@ -1,12 +1,11 @@
 -- The reading of a word means what its rules say.
-use Rattle.std.proofs.Common.{◌≡◌, ℕ, zero, suc, ◌+◌, ◌<◌, ◌≤◌, Bool, true, false, cond, eqb, leb, ◌⊎◌, List, [], ◌∷◌, map, length, get_or, take, drop, is_some, Some, None, Ok, Err, Option, Result, sym, refl, ap, ◌∙◌, subst, inl, inr, ⊎_elim, add-one, arith, MatchResult}
+use Rattle.std.proofs.Common.{◌≡◌, ℕ, zero, suc, ◌+◌, ◌<◌, ◌≤◌, Bool, true, false, cond, eqb, leb, List, [], ◌∷◌, map, length, take, is_some, Some, None, Err, Option, Result, sym, refl, ap, ◌∙◌, subst, inl, inr, ⊎_elim, arith, MatchResult}
 use Rattle.std.specs.Str.Parse.{digits_value}
 use Rattle.std.specs.Char.{to_ascii_uppercase}
 use Rattle.std.specs.List.{prefix_len}
-use Rattle.std.proofs.lemmas.List.Sums.{prefix_len-le-length}
 use Rattle.std.proofs.lemmas.Bool.{cases_lt, false≢true}
 use Rattle.units.specs.declared.fault.Fault.{Fault}
-use Rattle.units.specs.declared.fault.Fault.TheVariants.{Byte, Shape, Unknown}
+use Rattle.units.specs.declared.fault.Fault.TheVariants.{Byte, Shape}
 use Rattle.reader.specs.declared.functions.GFunction.{GFunction}
 use Rattle.reader.specs.declared.types.Passed.{Passed}
 use Rattle.reader.specs.declared.types.Passed.TheVariants.{F, S, T, D}
@@ -14,9 +13,9 @@ use Rattle.reader.specs.declared.types.Address.{Address}
 use Rattle.reader.specs.declared.types.Address.TheVariants.{N as at_n, G as at_g, M as at_m, Passed as at_passed, Axis as at_axis, Rpl as at_rpl, Name as at_name}
 use Rattle.reader.specs.declared.types.Said.{Said}
 use Rattle.reader.specs.declared.types.Item.{Item}
-use Rattle.reader.specs.Shapes.{IsCode, Begins, FirstWrong}
-use Rattle.reader.specs.Words.{in_word, Clean, FirstBad, spelled, letters_of, tail_of, Addressed, Follows, said, Says, g_number, Unlisted, ItemIs, Strange, Declined, by_byte, by_address, by_shape}
-use Rattle.reader.specs.Reading.{longest, ok_passed, ok, fits, alike, look, addresses, functions, spelled_by, address_of, function_of, as_g, said_by, listed, addressed, reading}
+use Rattle.reader.specs.Shapes.{FirstWrong}
+use Rattle.reader.specs.Words.{in_word, Clean, spelled, letters_of, tail_of, Addressed, Follows, said, Says, g_number, Unlisted, ItemIs, Declined, by_byte, by_address, by_shape}
+use Rattle.reader.specs.Reading.{longest, ok_passed, ok, fits, alike, look, addresses, functions, spelled_by, address_of, function_of, as_g, said_by, listed, addressed}
 use Rattle.reader.specs.Meaning.{ReadingStands}
 use Rattle.reader.proofs.Fronts.{Tells, split, le_is, le_yes, eq_is, tells_all}
 use Rattle.reader.proofs.Listed.{leading_all, leading_stop}

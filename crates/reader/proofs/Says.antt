@@ -1,5 +1,5 @@
 -- A word reads as its definition says.
-use Rattle.std.proofs.Common.{◌≡◌, ℕ, ◌+◌, ◌<◌, ◌≤◌, Bool, true, false, cond, ◌&&◌, eqb, leb, ◌⊎◌, List, [], ◌∷◌, map, length, get_or, take, drop, Some, None, Ok, Err, Option, Result, sym, refl, ap, ◌∙◌, subst, inl, inr, ⊎_elim, arith}
+use Rattle.std.proofs.Common.{◌≡◌, ℕ, ◌+◌, Bool, true, false, cond, eqb, leb, List, [], ◌∷◌, map, length, take, drop, Some, None, Ok, Err, Result, sym, refl, ap, ◌∙◌, inl, inr, ⊎_elim, arith}
 use Rattle.std.specs.Str.Parse.{digits_value}
 use Rattle.std.specs.Char.{to_ascii_uppercase}
 use Rattle.std.specs.List.{prefix_len}
@@ -23,8 +23,8 @@ use Rattle.reader.specs.declared.types.Number.{Number}
 use Rattle.reader.specs.declared.types.Said.{Said}
 use Rattle.reader.specs.declared.types.Said.TheVariants.{Name as s_name, Axis as s_axis, Rpl as s_rpl, G as s_g, M as s_m, N as s_n, Passed as s_passed}
 use Rattle.reader.specs.declared.types.Item.{Item}
-use Rattle.reader.specs.Words.{in_word, Clean, FirstBad, spelled, letters_of, tail_of, Addressed, Follows, Counts, said, Says, g_number, Unlisted, ItemIs, Strange, Misshapen, Declined, by_byte, by_address, by_shape}
-use Rattle.reader.specs.Reading.{longest, ok, fits, alike, look, addresses, functions, spelled_by, address_of, function_of, number_of, as_g, said_by, listed, addressed, reading}
+use Rattle.reader.specs.Words.{in_word, Clean, FirstBad, spelled, letters_of, tail_of, Addressed, Counts, said, Says, g_number, ItemIs, Strange, Misshapen, Declined, by_byte, by_address, by_shape}
+use Rattle.reader.specs.Reading.{longest, ok, alike, look, addresses, functions, spelled_by, address_of, function_of, number_of, as_g, said_by, listed, addressed, reading}
 use Rattle.reader.proofs.Clean.{shaped_clean}
 use Rattle.reader.proofs.Listed.{leading_is}
 use Rattle.reader.proofs.Fronts.{split, both, le_yes, le_is, eq_is, tells_all, longest_is, whole_not}

@@ -1,9 +1,9 @@
 -- What one reading keeps and finds, over the block's bytes.
-use Rattle.std.proofs.Common.{◌≡◌, ℕ, ◌+◌, ◌-◌, ◌<◌, ◌≤◌, ◌⊎◌, List, length, get_or, take, drop, sym, refl, ap, ◌∙◌, subst, inl, inr, ⊎_elim, arith}
+use Rattle.std.proofs.Common.{◌≡◌, ℕ, ◌+◌, ◌-◌, ◌<◌, ◌≤◌, ◌⊎◌, List, length, get_or, take, drop, refl, ap, ◌∙◌, subst, inl, inr, ⊎_elim, arith}
 use Rattle.std.proofs.lemmas.List.{take_rest, get_or-drop, length-take-le, length-drop}
 use Rattle.std.proofs.lemmas.Bool.{cases_lt, cases_eq}
-use Rattle.reader.specs.Runs.{Stop, Plain, IsRun, IsComment, Fresh, Apart}
-use Rattle.reader.specs.Pieces.{NoRun, Ended, RunRead, CommentRead}
+use Rattle.reader.specs.Runs.{Stop, Plain, IsRun, Fresh, Apart}
+use Rattle.reader.specs.Pieces.{Ended, RunRead, CommentRead}
 
 -- `&bytes[p..]` as the checker reads it
 abbrev pub rest : List ℕ → ℕ → List ℕ

@@ -1,11 +1,11 @@
 -- The list of words has the maximal runs, and no other.
-use Rattle.std.proofs.Common.{◌≡◌, ℕ, zero, suc, ◌+◌, ◌-◌, ◌<◌, ◌≤◌, Bool, true, false, cond, ◌⊎◌, List, [], ◌∷◌, length, take, drop, sym, refl, ap, ◌∙◌, subst, inl, inr, ⊎_elim, arith}
+use Rattle.std.proofs.Common.{◌≡◌, ℕ, zero, suc, ◌+◌, ◌<◌, ◌≤◌, true, false, cond, List, ◌∷◌, length, drop, sym, ap, subst, inl, inr, ⊎_elim, arith}
 use Rattle.std.specs.List.{prefix_len, AllByRecursion as All}
 use Rattle.std.proofs.ByRecursion.{All-weaker}
 use Rattle.std.proofs.lemmas.Bool.{cases_lt}
 use Rattle.reader.specs.Runs.{IsRun, part}
-use Rattle.reader.specs.WordList.{Run, is_stop, starts, word_at, words}
-use Rattle.reader.specs.Standing.{In, Later, Maximal, WordsAre, WordsStand}
+use Rattle.reader.specs.WordList.{Run, starts, word_at, words}
+use Rattle.reader.specs.Standing.{In, Later, Maximal, WordsStand}
 use Rattle.reader.proofs.Fronts.{split}
 use Rattle.reader.proofs.Listed.{free, run_starts, run_text, starts_run}
 

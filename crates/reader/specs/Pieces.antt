@@ -1,5 +1,5 @@
 -- What one reading gives: the first word or the comment from a place on.
-use Rattle.std.specs.Prelude.{◌≡◌, ℕ, ◌+◌, ◌-◌, ◌<◌, ◌≤◌, List, length, take, drop, Some, None, Ok, Err, Option, Result}
+use Rattle.std.specs.Prelude.{◌≡◌, ℕ, ◌+◌, ◌-◌, ◌≤◌, List, length, take, drop, Some, None, Ok, Err, Option, Result}
 use Rattle.reader.specs.declared.types.Piece.{Piece}
 use Rattle.reader.specs.declared.types.Piece.TheVariants.{Run, Comment}
 use Rattle.units.specs.declared.fault.Fault.{Fault}

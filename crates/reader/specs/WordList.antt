@@ -1,5 +1,5 @@
 -- The words of a block as a list that computes, the latest first.
-use Rattle.std.specs.Prelude.{◌≡◌, ℕ, zero, suc, Bool, true, false, cond, not, ◌&&◌, ◌||◌, List, [], ◌∷◌, take, drop, ◌==◌, slice_index}
+use Rattle.std.specs.Prelude.{ℕ, zero, suc, Bool, true, cond, not, ◌&&◌, ◌||◌, List, [], ◌∷◌, take, drop, ◌==◌, slice_index}
 use Rattle.std.specs.List.{prefix_len}
 
 -- the bytes of a word, and where it stands

@@ -1,8 +1,8 @@
 -- A roll with more records.
-use Rattle.std.proofs.Common.{◌≡◌, ℕ, zero, suc, ◌+◌, ◌<◌, ◌≤◌, Bool, true, false, cond, leb, List, [], ◌∷◌, ◌++◌, length, take, drop, set, sym, refl, ap, ◌∙◌, subst, append_assoc, add-zero, add_assoc, add-one, arith, length-append, length-drop, le-leb}
+use Rattle.std.proofs.Common.{◌≡◌, ℕ, ◌+◌, ◌<◌, ◌≤◌, List, [], ◌∷◌, ◌++◌, length, take, drop, set, sym, refl, ap, ◌∙◌, append_assoc, add-zero, add-one, arith, length-append, length-drop, le-leb}
 use borrow.Author.Tests.{lt-leb}
-use Rattle.std.proofs.lemmas.List.{take-append-drop, take_at, drop_at, set_split, length-take-le, drop-drop, length-set}
-use Rattle.rolls.specs.Rolls.{RollState, records_of, is_full, extended, appended, Filed}
+use Rattle.std.proofs.lemmas.List.{take-append-drop, take_at, drop_at, set_split, length-take-le, drop-drop}
+use Rattle.rolls.specs.Rolls.{RollState, records_of, extended, appended, Filed}
 
 module _ {R : Type 0} where
   roll_as : (p q : List R) (m n : ℕ) → p ≡ q → m ≡ n → ◌≡◌ {A = RollState R} (record { places = p; count = m }) (record { places = q; count = n })

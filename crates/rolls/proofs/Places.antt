@@ -1,8 +1,8 @@
 -- Reading one of a roll's places, and the first that reaches a byte.
-use Rattle.std.proofs.Common.{◌≡◌, ℕ, zero, suc, ◌+◌, ◌<◌, ◌≤◌, Bool, true, false, cond, leb, List, [], ◌∷◌, ◌++◌, length, get_or, take, drop, Some, None, Ok, Err, Option, sym, refl, ap, ◌∙◌, subst, add-one, arith, le-leb, leb-false, leb-true}
+use Rattle.std.proofs.Common.{◌≡◌, ℕ, zero, suc, ◌+◌, ◌<◌, ◌≤◌, Bool, true, false, cond, leb, List, [], ◌∷◌, length, get_or, take, drop, Some, None, Ok, Err, Option, sym, refl, ap, subst, add-one, arith, le-leb, leb-false, leb-true}
 use borrow.Author.Tests.{lt-leb}
 use Rattle.units.specs.declared.fault.Fault.TheVariants.{Argument}
-use Rattle.rolls.specs.Rolls.{nth_of, first_from, AllBefore, First}
+use Rattle.rolls.specs.Rolls.{nth_of, first_from, First}
 
 module _ {R : Type 0} where
   pub nth_in : (xs : List R) (n i : ℕ) (d : R) → i < n → n ≤ length xs → Ok (get_or xs i d) ≡ nth_of (take n xs) i

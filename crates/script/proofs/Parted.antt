@@ -1,5 +1,5 @@
 -- A word cut off a line at its first space.
-use Rattle.std.proofs.Common.{◌≡◌, ℕ, suc, ◌-◌, ◌<◌, ◌≤◌, List, [], ◌∷◌, ◌++◌, length, get_or, take, drop, Some, None, Option, sym, refl, ap, ◌∙◌, subst, arith, take-append-drop, length-take, drop-cons, get_or-take}
+use Rattle.std.proofs.Common.{◌≡◌, ℕ, suc, ◌-◌, ◌<◌, List, ◌∷◌, ◌++◌, length, get_or, take, drop, Some, Option, sym, ap, ◌∙◌, subst, arith, take-append-drop, length-take, drop-cons, get_or-take}
 use Rattle.std.proofs.lemmas.List.{take_all}
 use Rattle.script.specs.Words.{NoSpace, Took}
 

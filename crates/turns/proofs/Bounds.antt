@@ -1,11 +1,11 @@
 -- A term that is cut off is at most 3 below the term.
 use mathlib.Core.Path.{◌≡◌, refl, sym, ◌∙◌, ap, subst}
-use Prim.Native.Nat.{ℕ, zero, suc, ◌+◌, ◌-◌, ◌*◌, ◌/◌, ◌%◌, ◌^◌, ◌≤◌, ◌<◌}
+use Prim.Native.Nat.{ℕ, zero, suc, ◌+◌, ◌-◌, ◌*◌, ◌/◌, ◌^◌, ◌≤◌, ◌<◌}
 use native.Mathlib.Omega.{arith}
 use native.Mathlib.Nat.{mul-le-mul_right, mul-le-mul_left, mul-le-mul, le_of_mul-le-mul_right, mul-pos, div-mul-le_self, lt-div-mul-add, pow-suc, pow-zero, le_trans}
-use lib.IntN.{ℤ, pos, ◌-ℤ◌, ◌*ℤ◌, nat_abs}
+use lib.IntN.{pos, ◌-ℤ◌, ◌*ℤ◌, nat_abs}
 use borrow.Author.Differences.{ints}
-use Rattle.turns.specs.Reference.{term, unit, whole, Π, fact, cosine_up, cosine_down, sine_up, sine_down, cosine, sine, OctantLaw}
+use Rattle.turns.specs.Reference.{term, unit, whole, Π, fact, cosine_up, cosine_down, sine_up, sine_down, OctantLaw}
 use Rattle.turns.specs.Terms.{cut_term}
 use Rattle.turns.specs.Numbers.{argument, cosine_sum, sine_sum, octant_c, octant_s}
 

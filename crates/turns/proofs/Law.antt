@@ -1,11 +1,11 @@
 -- The numbers are within 1 of 10^9 times their references.
 use mathlib.Core.Path.{◌≡◌, refl, sym, subst, subst₂}
 use mathlib.Core.Bool.{Bool, true, false, cond, not}
-use Prim.Native.Nat.{ℕ, ◌+◌, ◌-◌, ◌*◌, ◌/◌, ◌%◌, ◌^◌, ◌≤◌, ◌<◌}
+use Prim.Native.Nat.{ℕ, ◌-◌, ◌/◌, ◌%◌, ◌≤◌, ◌<◌}
 use native.Mathlib.Omega.{arith}
 use lib.IntN.{ℤ, pos}
 use lib.Dec.{leb, leb→le, nleb→lt, T}
-use Rattle.turns.specs.Reference.{NearTo, Exactly, OctantLaw, TurnLaw, cosine, sine, cosine_of, sine_of, quarter_cosine, quarter_sine}
+use Rattle.turns.specs.Reference.{NearTo, Exactly, TurnLaw, cosine, sine, cosine_of, sine_of, quarter_cosine, quarter_sine}
 use Rattle.turns.specs.Numbers.{octant_c, octant_s, quarter_c, quarter_s, turn_c, turn_s, Law}
 use Rattle.turns.proofs.Bounds.{octant_numbers}
 use Rattle.turns.proofs.Turning.{quarters, quarters_exact, octant_exact}

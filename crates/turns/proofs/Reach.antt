@@ -1,13 +1,13 @@
 -- |c| + |s| is at most 3/2.
 use mathlib.Core.Path.{◌≡◌, refl, sym, ◌∙◌, ap, subst}
 use mathlib.Core.Bool.{Bool, true, false, cond, not}
-use Prim.Native.Nat.{ℕ, zero, suc, ◌+◌, ◌-◌, ◌*◌, ◌/◌, ◌%◌, ◌^◌, ◌≤◌, ◌<◌}
+use Prim.Native.Nat.{ℕ, zero, suc, ◌+◌, ◌-◌, ◌*◌, ◌/◌, ◌%◌, ◌≤◌, ◌<◌}
 use native.Mathlib.Omega.{arith}
-use native.Mathlib.Nat.{mul-le-mul_right, mul-le-mul_left, mul-le-mul, le_of_mul-le-mul_right, mul-pos, le_trans, le_of_eq}
-use lib.IntN.{ℤ, pos, ◌-ℤ◌, ◌*ℤ◌, neg_ℤ, nat_abs}
+use native.Mathlib.Nat.{mul-le-mul_right, mul-le-mul_left, mul-le-mul, le_of_mul-le-mul_right, mul-pos, le_of_eq}
+use lib.IntN.{ℤ, pos, ◌-ℤ◌, neg_ℤ, nat_abs}
 use lib.Dec.{T, leb, leb→le, nleb→lt}
 use borrow.Author.Differences.{ints}
-use Rattle.turns.specs.Reference.{term, unit, whole, Π, fact, cosine_up, cosine_down, sine_up, sine_down, cosine, sine, quarter_cosine, quarter_sine, quarters_cosine, quarters_sine, cosine_of, sine_of}
+use Rattle.turns.specs.Reference.{term, unit, whole, Π, cosine, sine, quarter_cosine, quarter_sine, quarters_cosine, quarters_sine, cosine_of, sine_of}
 use Rattle.turns.proofs.Bounds.{next, share, term_zero, falls}
 
 -- X / D is at most 0.7854

@@ -1,16 +1,11 @@
 -- A quarter turn of the numbers and of their references.
 use mathlib.Core.Path.{◌≡◌, refl, sym, ◌∙◌, ap, subst, subst₂}
-use mathlib.Core.Bool.{Bool, true, false, cond}
-use Prim.Native.Nat.{ℕ, zero, suc, ◌+◌, ◌-◌, ◌*◌, ◌/◌, ◌%◌, ◌^◌, ◌≤◌, ◌<◌}
+use Prim.Native.Nat.{ℕ, zero, suc, ◌/◌, ◌%◌, ◌^◌}
 use native.Mathlib.Omega.{arith}
 use native.Mathlib.Nat.{le_trans, le_of_eq}
-use lib.IntN.{ℤ, pos, ◌-ℤ◌, ◌*ℤ◌, neg_ℤ, nat_abs, neg_ℤ-neg_ℤ}
-use lib.Dec.{leb, le→leb, T}
-use mir.Val.{SFits, to_z, of_z}
-use mir.Syntax.{w64}
-use borrow.Author.Differences.{ints}
-use Rattle.turns.specs.Reference.{whole, NearTo, Exactly, OctantLaw, cosine, sine, quarter_cosine, quarter_sine, quarters_cosine, quarters_sine, cosine_of, sine_of}
-use Rattle.turns.specs.Numbers.{octant_c, octant_s, quarter_c, quarter_s, turn_c, turn_s}
+use lib.IntN.{ℤ, pos, ◌-ℤ◌, ◌*ℤ◌, neg_ℤ, nat_abs}
+use Rattle.turns.specs.Reference.{whole, NearTo, Exactly, OctantLaw, cosine, sine, quarters_cosine, quarters_sine}
+use Rattle.turns.specs.Numbers.{quarter_c, quarter_s, turn_c, turn_s}
 use Rattle.fractions.proofs.Ring.{is, is_pos, is_sub, is_neg, is_mul, is_same, abs_neg}
 
 flip : (R W : ℕ) (s S : ℤ) → neg_ℤ s *ℤ pos W -ℤ pos R *ℤ neg_ℤ S ≡ neg_ℤ (s *ℤ pos W -ℤ pos R *ℤ S)

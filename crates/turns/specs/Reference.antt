@@ -1,5 +1,5 @@
 -- The reference sine and cosine of an angle of a ticks, 0 to 450,000, as fractions over one denominator.
-use Rattle.std.specs.Prelude.{ℕ, zero, suc, ◌+◌, ◌-◌, ◌*◌, ◌/◌, ◌%◌, ◌^◌, ◌≤◌, ℤ, pos, ◌-ℤ◌, ◌*ℤ◌, neg_ℤ, nat_abs, Bool, cond, leb, ◌≡◌}
+use Rattle.std.specs.Prelude.{ℕ, zero, suc, ◌+◌, ◌-◌, ◌*◌, ◌/◌, ◌%◌, ◌^◌, ◌≤◌, ℤ, pos, ◌-ℤ◌, ◌*ℤ◌, neg_ℤ, nat_abs, cond, leb, ◌≡◌}
 
 -- x = a × Π / (1,800,000 × 10^20)
 abbrev pub Π : ℕ

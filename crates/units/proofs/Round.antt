@@ -1,8 +1,8 @@
 -- The rounding division's arithmetic, over ℤ with no widths.
-use Rattle.std.proofs.Common.{◌≡◌, ℕ, zero, suc, ◌+◌, ◌-◌, ◌*◌, ◌/◌, ◌%◌, ◌<◌, ◌≤◌, ◌⊎◌, ℤ, pos, negsuc, ◌+ℤ◌, ◌-ℤ◌, ◌*ℤ◌, neg_ℤ, nat_abs, ◌≤ℤ◌, ◌<ℤ◌, sym, refl, ap, ◌∙◌, subst, inl, inr, mul-le-mul_right, mod-lt, div-le_self, arith, w64, SFits, to_z, of_z}
+use Rattle.std.proofs.Common.{◌≡◌, ℕ, zero, suc, ◌+◌, ◌*◌, ◌/◌, ◌%◌, ◌<◌, ◌≤◌, ◌⊎◌, ℤ, pos, negsuc, ◌+ℤ◌, ◌-ℤ◌, ◌*ℤ◌, neg_ℤ, nat_abs, ◌≤ℤ◌, ◌<ℤ◌, sym, refl, ◌∙◌, subst, inl, inr, mul-le-mul_right, mod-lt, div-le_self, arith, w64, SFits, to_z, of_z}
 use native.Mathlib.Nat.{div-add-mod}
 use lib.Signed.{quot_z}
-use borrow.Author.Differences.{ints, up, down, product_is, sum_is_lem, neg_is, abs_is, quot_is}
+use borrow.Author.Differences.{ints, up, down, quot_is}
 use mir.Syntax.{Width}
 use Rattle.std.proofs.lemmas.Int.{by_lt_z, to_z-of_z}
 use Rattle.units.specs.Nearest.{Nearest, nearest}

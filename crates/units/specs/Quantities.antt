@@ -1,5 +1,5 @@
 -- Numbers of a limited range: which numbers are one.
-use Rattle.std.specs.Prelude.{◌≡◌, ℕ, suc, ◌+◌, ◌%◌, ◌<◌, ◌≤◌, Bool, true, false, ℤ, pos, Some, None, Option, nat_le, unsigned_abs, refl}
+use Rattle.std.specs.Prelude.{◌≡◌, ℕ, suc, ◌+◌, ◌%◌, ◌≤◌, Bool, true, false, ℤ, pos, Some, None, Option, nat_le, unsigned_abs, refl}
 use Rattle.std.proofs.Common.{mod-lt, leb-true, lit≤, lit<}
 use Rattle.units.specs.declared.quantity.Length.{Length}
 use Rattle.units.specs.declared.quantity.Factor.{Factor}

@@ -1,10 +1,10 @@
-use Rattle.std.proofs.Common.{◌≡◌, length, Some, Option, Result, sym, refl, ap, ◌∙◌, subst, arith}
+use Rattle.std.proofs.Common.{length, Some, Option, Result, sym, ap, ◌∙◌, subst, arith}
 use Rattle.units.specs.declared.fault.Fault.{Fault}
 use Rattle.reader.specs.declared.types.Item.{Item}
 use Rattle.reader.specs.declared.types.Word.{Word}
-use Rattle.reader.specs.Pieces.{WordRead, GivenAs, Ended, DeclinedRead}
+use Rattle.reader.specs.Pieces.{WordRead, GivenAs, Ended}
 use Rattle.reader.specs.Words.{text_of, place_of}
-use Rattle.blocks.proofs.Turns.{Kept, next_word, stop_declined, stop_repeated, past_comment, all_read}
+use Rattle.blocks.proofs.Turns.{next_word, stop_declined, stop_repeated, past_comment, all_read}
 use Rattle.blocks.proofs.block.gather.Goals as goal
 use Rattle.blocks.proofs.block.gather.Goals.{After-item}
 

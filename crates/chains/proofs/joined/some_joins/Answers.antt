@@ -1,4 +1,4 @@
-use Rattle.std.proofs.Common.{◌≡◌, ◌≤◌, length, sym, ◌∙◌, arith, rules}
+use Rattle.std.proofs.Common.{◌≤◌, length, sym, ◌∙◌, arith, rules}
 use Rattle.chains.specs.Joined.{joins_next}
 use Rattle.chains.proofs.Any.{found, not_here, nowhere}
 use Rattle.chains.proofs.joined.some_joins.Goals as goal

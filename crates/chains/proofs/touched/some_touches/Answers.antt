@@ -1,4 +1,4 @@
-use Rattle.std.proofs.Common.{◌≡◌, ◌≤◌, length, sym, ◌∙◌, arith, rules}
+use Rattle.std.proofs.Common.{◌≤◌, length, sym, ◌∙◌, arith, rules}
 use Rattle.chains.specs.Steps.{touches}
 use Rattle.chains.proofs.Any.{found, not_here, nowhere}
 use Rattle.chains.proofs.touched.some_touches.Goals as goal

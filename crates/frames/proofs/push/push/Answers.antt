@@ -1,4 +1,4 @@
-use Rattle.std.proofs.Common.{◌≡◌, ◌+◌, ◌≤◌, length, Ok, Err, sym, ap, ◌∙◌, rules}
+use Rattle.std.proofs.Common.{◌+◌, ◌≤◌, length, Ok, Err, ap, ◌∙◌, rules}
 use Rattle.chains.specs.declared.step.Step.TheVariants.{Offset}
 use Rattle.chains.specs.Chains.{steps_of}
 use Rattle.frames.specs.Pushing.{tested}

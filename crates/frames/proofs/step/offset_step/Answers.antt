@@ -1,7 +1,7 @@
 use Rattle.std.proofs.Common.{◌≡◌, length, ◌∙◌, arith, w64, SFits, rules}
 use Rattle.std.proofs.lemmas.Int.{to_z-of_z}
 use Rattle.chains.specs.declared.step.Step.TheVariants.{Offset}
-use Rattle.frames.specs.Pushing.{moved_at, moved_spread}
+use Rattle.frames.specs.Pushing.{moved_at}
 use Rattle.frames.proofs.Axes.{written_more, at_three, kept_three}
 use Rattle.frames.proofs.step.offset_step.Goals as goal
 

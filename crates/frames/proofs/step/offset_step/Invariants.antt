@@ -1,6 +1,6 @@
 use Rattle.std.proofs.Common.{◌≡◌}
 use Rattle.chains.specs.declared.step.Step.TheVariants.{Offset}
-use Rattle.frames.specs.Pushing.{moved_at, moved_spread}
+use Rattle.frames.specs.Pushing.{moved_at}
 use Rattle.frames.proofs.Axes.{written}
 use Rattle.frames.proofs.step.offset_step.Given as goal
 

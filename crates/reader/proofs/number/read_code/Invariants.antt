@@ -1,4 +1,4 @@
-use Rattle.std.proofs.Common.{◌≡◌, ℕ, ◌^◌, ◌<◌, ◌≤◌, length, take}
+use Rattle.std.proofs.Common.{◌≡◌, ◌^◌, ◌<◌, ◌≤◌, take}
 use Rattle.std.specs.Str.Parse.{digits_value}
 use Rattle.reader.proofs.Shapes.{Code}
 use Rattle.reader.proofs.number.read_code.Given as goal

@@ -1,6 +1,6 @@
-use Rattle.std.proofs.Common.{◌≡◌, ℕ, ◌^◌, ◌<◌, ◌≤◌, Bool, true, false, List, [], ◌∷◌, length, get_or, take, sym, refl, subst, inl, inr, arith}
+use Rattle.std.proofs.Common.{ℕ, ◌≤◌, Bool, List, length, get_or, take, sym, refl, subst, inl, inr, arith}
 use Rattle.std.proofs.lemmas.List.{take_more, take_all}
-use Rattle.reader.specs.Shapes.{IsMagnitude, digits}
+use Rattle.reader.specs.Shapes.{IsMagnitude}
 use Rattle.reader.proofs.Shapes.{Sofar, carry, digit_plain, digit_after, point_first, begins, done, not_allowed, eleventh, second_point, first_wrong, first_short, ten_digits}
 use Rattle.reader.proofs.number.read_magnitude.Goals as goal
 use Rattle.reader.proofs.number.read_magnitude.Goals.{in-46+else-point, in-48-to-57+else-digits-eq-NUMBER_DIGITS+then-point-2, in-48-to-57+else-digits-eq-NUMBER_DIGITS+else-point-2}

@@ -1,6 +1,4 @@
-use Rattle.std.proofs.Common.{◌≡◌, ℕ, ◌^◌, ◌<◌, ◌≤◌, cond, length, take, count_by}
-use Rattle.std.specs.Str.Parse.{digits_value}
-use Rattle.reader.specs.Shapes.{digits, decimals, is_point}
+use Rattle.std.proofs.Common.{take}
 use Rattle.reader.proofs.Shapes.{Sofar}
 use Rattle.reader.proofs.number.read_magnitude.Given as goal
 

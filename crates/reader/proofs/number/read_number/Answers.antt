@@ -2,7 +2,7 @@ use Rattle.std.proofs.Common.{◌≡◌, ◌<◌, ◌≤◌, false, length, get_
 use Rattle.std.proofs.lemmas.Int.{ints}
 use Rattle.std.proofs.lemmas.List.{get_or_past}
 use Rattle.reader.specs.Shapes.{is_sign}
-use Rattle.reader.proofs.Shapes.{head_rest, signed_ok, signed_wrong, plain_wrong, plain_ok, no_sign}
+use Rattle.reader.proofs.Shapes.{head_rest, signed_ok, signed_wrong, plain_wrong, no_sign}
 use Rattle.reader.proofs.number.read_number.Goals as goal
 use Rattle.reader.proofs.number.read_number.Goals.{in_default-via-then-s-lt1, in_default-via-else-s-lt1+in_default-1}
 

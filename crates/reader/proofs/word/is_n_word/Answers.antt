@@ -1,4 +1,4 @@
-use Rattle.std.proofs.Common.{◌≡◌, ◌≤◌, length, refl, arith, rules}
+use Rattle.std.proofs.Common.{◌≤◌, length, refl, arith, rules}
 use Rattle.reader.proofs.Shapes.{head_rest}
 use Rattle.reader.proofs.Clean.{n_word}
 use Rattle.reader.proofs.word.is_n_word.Goals as goal

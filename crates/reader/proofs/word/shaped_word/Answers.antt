@@ -1,6 +1,5 @@
-use Rattle.std.proofs.Common.{◌≡◌, ◌+◌, map, sym, ap, ◌∙◌, subst, rules}
+use Rattle.std.proofs.Common.{◌+◌, map, sym, ap, ◌∙◌, subst, rules}
 use Rattle.std.specs.Char.{to_ascii_uppercase}
-use Rattle.units.specs.declared.fault.Fault.{Fault}
 use Rattle.units.specs.declared.fault.Fault.TheVariants.{Shape}
 use Rattle.reader.specs.Shapes.{FirstWrong}
 use Rattle.reader.specs.Words.{Follows, by_shape}

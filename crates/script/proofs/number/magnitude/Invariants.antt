@@ -1,4 +1,4 @@
-use Rattle.std.proofs.Common.{◌≡◌, ◌<◌, ◌≤◌, length, drop}
+use Rattle.std.proofs.Common.{◌≡◌, ◌≤◌, drop}
 use Rattle.script.specs.Numbers.{magnitude_from}
 use Rattle.script.proofs.number.magnitude.Given as goal
 

@@ -1,5 +1,5 @@
-use Rattle.std.proofs.Common.{◌≡◌, ◌-◌, ◌<◌, ◌≤◌, get_or, None, sym, ap, ◌∙◌, arith, rules}
-use Rattle.chains.specs.Chains.{steps_of, merged_step}
+use Rattle.std.proofs.Common.{◌<◌, rules}
+use Rattle.chains.specs.Chains.{steps_of}
 use Rattle.chains.proofs.Listed.{merged_taken, next_taken, told_by_lem, left_by_lem}
 use Rattle.chains.proofs.chain.Chain.append.Goals as goal
 

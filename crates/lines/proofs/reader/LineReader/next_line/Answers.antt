@@ -1,4 +1,4 @@
-use Rattle.std.proofs.Common.{◌≡◌, ℕ, ◌+◌, ◌-◌, ◌<◌, List, length, take, drop, refl, ap, arith}
+use Rattle.std.proofs.Common.{◌≡◌, ℕ, ◌+◌, ◌-◌, ◌<◌, length, take, drop, refl, ap, arith}
 use Rattle.lines.proofs.Cuts.{read}
 use Rattle.lines.proofs.reader.LineReader.next_line.Goals as goal
 

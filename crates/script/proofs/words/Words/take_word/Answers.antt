@@ -1,4 +1,4 @@
-use Rattle.std.proofs.Common.{ℕ, List, length, ap}
+use Rattle.std.proofs.Common.{ap}
 use Rattle.script.specs.Words.{bytes_of}
 use Rattle.script.proofs.Parted.{parted}
 use Rattle.script.proofs.words.Words.take_word.Goals as goal
