@@ -1,5 +1,5 @@
 -- Every call keeps a translator tied to the plain shift.
-use Rattle.std.proofs.Common.{◌≡◌, ℕ, Bool, true, false, cond, List, [], ◌∷◌, ℤ, Some, None, Ok, Err, Option, Result, sym, refl, ap, ◌∙◌, subst}
+use Rattle.std.proofs.Common.{◌≡◌, ℕ, Bool, cond, List, ℤ, Some, None, Ok, Err, Option, Result, sym, refl, subst}
 use Rattle.units.specs.Faults.{at_place}
 use Rattle.units.specs.declared.axis.Axis.{Axis}
 use Rattle.units.specs.declared.axis.Point.{Point}

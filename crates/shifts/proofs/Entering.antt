@@ -1,10 +1,9 @@
 -- An offset entry keeps a translator tied to the plain shift.
-use Rattle.std.proofs.Common.{◌≡◌, ℕ, zero, suc, ◌<◌, ◌≤◌, Bool, true, false, cond, eqb, ◌≢◌, List, [], ◌∷◌, length, get_or, set, ℤ, pos, negsuc, Some, None, Ok, Err, Option, Result, sym, refl, ap, ◌∙◌, subst, arith, lit<, lit≤, length-set, get_or-set_other, get_or-set_same, ne_eqb, eqb-true}
+use Rattle.std.proofs.Common.{◌≡◌, ℕ, zero, suc, ◌<◌, ◌≤◌, Bool, true, false, cond, eqb, ◌≢◌, List, [], ◌∷◌, length, get_or, ℤ, pos, negsuc, Some, None, Ok, Option, sym, refl, ap, ◌∙◌, subst, arith, lit≤, length-set, get_or-set_other, get_or-set_same, ne_eqb, eqb-true}
 use borrow.Author.Tests.{eqb-false}
 use Rattle.units.specs.Quantities.{zero_length, length_of}
 use Rattle.units.specs.declared.axis.Axis.{Axis}
 use Rattle.units.specs.declared.axis.Point.{Point}
-use Rattle.units.specs.declared.fault.Fault.{Fault}
 use Rattle.units.specs.declared.fault.Fault.TheVariants.{Argument}
 use Rattle.units.specs.declared.quantity.Length.{Length}
 use Rattle.reader.specs.declared.functions.Settable.{Settable}
@@ -16,7 +15,7 @@ use Rattle.workpiece.specs.Settable.{frame_number, numbered_frame, no_offset, fr
 use Rattle.workpiece.specs.Setup.{SetupState}
 use Rattle.translator.specs.State.{State}
 use Rattle.translator.specs.Work.{with_setup}
-use Rattle.shifts.specs.Plain.{Plain, on_axis, unplaced, same_frame, entered_by as entered_plain}
+use Rattle.shifts.specs.Plain.{Plain, on_axis, unplaced, entered_by as entered_plain}
 use Rattle.shifts.proofs.Small.{three, ok_only, not_ok, some_only, not_some, length_units}
 use Rattle.shifts.proofs.Follows.{Follows}
 

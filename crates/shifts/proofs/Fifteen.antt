@@ -1,20 +1,18 @@
 -- When a block gets 15, and how much a spread grows.
-use Rattle.std.proofs.Common.{◌≡◌, ℕ, zero, suc, ◌<◌, ◌≤◌, Bool, true, false, cond, ◌⊎◌, List, [], ◌∷◌, length, get_or, Some, None, Ok, Err, Option, Result, sym, refl, ap, ◌∙◌, subst, ⊎_elim, arith, lit<}
+use Rattle.std.proofs.Common.{◌≡◌, ℕ, suc, Bool, true, false, cond, List, [], ◌∷◌, length, Some, None, Ok, Err, Option, Result, sym, refl, ap, ◌∙◌, subst, ⊎_elim, arith}
 use Rattle.units.specs.Faults.{decline_of, at_place}
 use Rattle.units.specs.declared.axis.Axis.{Axis}
 use Rattle.units.specs.declared.axis.Point.{Point}
 use Rattle.units.specs.declared.fault.Fault.{Fault}
 use Rattle.units.specs.declared.fault.Fault.TheVariants.{TooLong, Byte, Shape, Unknown, Repeated, Misplaced, Unfit, Range, Ended, ChainFull, IncrementalMachine, Open, Beyond, Spread, Outside, RollFull, Argument}
-use Rattle.machine.specs.Meaning.{at, Meaning}
+use Rattle.machine.specs.Meaning.{at}
 use Rattle.machine.specs.Replies.{reply_to}
-use Rattle.machine.specs.Standing.{InsideAll, Declines}
+use Rattle.machine.specs.Standing.{InsideAll}
 use Rattle.machine.proofs.Relations.{replies}
 use Rattle.chains.specs.declared.step.Step.{Step}
 use Rattle.chains.specs.Chains.{appended, lengthened}
-use Rattle.chains.specs.Joined.{moved_axes}
 use Rattle.frames.specs.declared.image.Image.{Image}
-use Rattle.frames.specs.Pushing.{coordinate, spread_of, first_axis, is_beyond, is_wide, or_else, tested, through, onward, through_steps, started, settable, pushed}
-use Rattle.frames.specs.Theorems.{NoneEnlarges, Grown, weight_of}
+use Rattle.frames.specs.Pushing.{first_axis, is_beyond, is_wide, or_else, tested, through, onward, through_steps, started, settable, pushed}
 use Rattle.reader.specs.WordList.{Run, words}
 use Rattle.reader.specs.Words.{Declined as DeclinedWord, by_byte, by_address, by_shape}
 use Rattle.blocks.specs.Block.{block_of}
@@ -30,24 +28,21 @@ use Rattle.units.specs.declared.quantity.Tolerance.{Tolerance}
 use Rattle.workpiece.specs.declared.force.InForce.{InForce}
 use Rattle.workpiece.specs.declared.plan.Plan.{Plan}
 use Rattle.workpiece.specs.declared.settable.SettableFrame.{SettableFrame}
-use Rattle.workpiece.specs.Changes.{changed, on_longer, step_in, lengthened_by}
+use Rattle.workpiece.specs.Changes.{changed, on_longer, step_in}
 use Rattle.workpiece.specs.Modes.{is_inch, is_incremental}
-use Rattle.workpiece.specs.Moves.{planned, planned_by, workpiece_plan, machine_plan, opened_plan}
+use Rattle.workpiece.specs.Moves.{planned, planned_by, opened_plan}
 use Rattle.workpiece.specs.Force.{machine_only}
 use Rattle.workpiece.specs.Places.{all_open}
 use Rattle.workpiece.specs.Selects.{selected}
-use Rattle.workpiece.specs.Plans.{placed, unless_axis, image_in, on_image, on_placed, reckoned, values_or, open_axis, far_axis, kept_image, plan_of, named_by, moved_in, standings}
+use Rattle.workpiece.specs.Plans.{placed, unless_axis, image_in, on_image, on_placed, reckoned, values_or, open_axis, far_axis, named_by, moved_in, standings}
 use Rattle.workpiece.specs.Settable.{frame_number, offset_of}
 use Rattle.workpiece.specs.Setup.{SetupState}
-use Rattle.translator.specs.declared.reply.Reply.{Reply}
 use Rattle.translator.specs.State.{State, point_of, Tells}
-use Rattle.translator.specs.Work.{Done, with_setup, on_change, on_reply, handed_over, on_plan, ordinary_at, obeyed, running, worked, replied, left_by}
-use Rattle.shifts.specs.declared.call.Answer.{Answer}
-use Rattle.shifts.specs.declared.call.Answer.TheVariants.{Replied, Told, Declined}
+use Rattle.translator.specs.Work.{Done, on_change, on_reply, on_plan, ordinary_at, obeyed, running, worked, replied, left_by}
 use Rattle.shifts.specs.declared.call.Seen.{Seen}
 use Rattle.shifts.specs.Calls.{answer_of}
 use Rattle.shifts.specs.Law.{OutsideSome, Got15, targets_of, targets_at, targets_of_block, targets_of_plan, Fifteen}
-use Rattle.shifts.proofs.Small.{ok_only, not_ok, some_only, not_some}
+use Rattle.shifts.proofs.Small.{not_ok, some_only, not_some}
 
 -- a fault of another number
 abbrev pub Other : Fault → Type 0

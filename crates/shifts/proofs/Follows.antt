@@ -1,8 +1,7 @@
 -- What ties a translator to the plain shift between two calls: at the start, and after selections, frame instructions, limits and reset.
-use Rattle.std.proofs.Common.{◌≡◌, ℕ, zero, suc, ◌*◌, ◌<◌, ◌≤◌, Bool, true, false, cond, not, ◌||◌, eqb, leb, List, [], ◌∷◌, length, get_or, ℤ, pos, ◌-ℤ◌, nat_abs, Some, None, Ok, Err, Option, Result, sym, refl, ap, ◌∙◌, subst, arith, lit<}
+use Rattle.std.proofs.Common.{◌≡◌, ℕ, zero, suc, ◌*◌, ◌<◌, ◌≤◌, Bool, true, false, cond, not, ◌||◌, eqb, leb, List, [], ◌∷◌, length, get_or, ℤ, pos, ◌-ℤ◌, nat_abs, Some, None, Ok, Err, Option, Result, sym, refl, ap, ◌∙◌, subst, lit<}
 use Rattle.units.specs.Quantities.{zero_length}
 use Rattle.units.specs.declared.axis.Axis.{Axis}
-use Rattle.units.specs.declared.axis.Axis.TheVariants.{X, Y, Z}
 use Rattle.units.specs.declared.axis.Plane.{Plane}
 use Rattle.units.specs.declared.axis.Side.{Side}
 use Rattle.units.specs.declared.fault.Fault.{Fault}
@@ -27,9 +26,8 @@ use Rattle.blocks.specs.declared.types.FrameStep.{FrameStep}
 use Rattle.blocks.specs.declared.types.FrameStep.TheVariants.{Offset as s_offset, Turn as s_turn, Scale as s_scale, Mirror as s_mirror}
 use Rattle.blocks.specs.declared.types.Ordinary.{Ordinary}
 use Rattle.workpiece.specs.Changes.{step_in, reframed, changed, on_longer, either_of}
-use Rattle.workpiece.specs.Force.{selected_force}
 use Rattle.workpiece.specs.Modes.{chosen, is_inch, is_incremental}
-use Rattle.workpiece.specs.Places.{all_open, opened_at, opened as opened_in, units_of}
+use Rattle.workpiece.specs.Places.{all_open, opened_at, units_of}
 use Rattle.workpiece.specs.Selects.{selected}
 use Rattle.workpiece.specs.Settable.{frame_number, no_records, no_offset, offset_of}
 use Rattle.workpiece.specs.Setup.{SetupState, after_reset}

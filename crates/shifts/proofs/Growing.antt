@@ -1,5 +1,5 @@
 -- How much the spreads of a moved axis grow.
-use Rattle.std.proofs.Common.{◌≡◌, ℕ, zero, suc, ◌<◌, Bool, true, false, cond, List, [], ◌∷◌, get_or, Some, None, Ok, Err, Option, Result, sym, refl, ap, ◌∙◌, subst, arith, lit<, Bor}
+use Rattle.std.proofs.Common.{◌≡◌, ℕ, ◌<◌, Bool, true, false, cond, List, [], ◌∷◌, get_or, Some, None, Ok, Err, Option, Result, sym, refl, ap, ◌∙◌, subst, arith, lit<, Bor}
 use Rattle.units.specs.declared.axis.Axis.{Axis}
 use Rattle.units.specs.declared.fault.Fault.{Fault}
 use Rattle.units.specs.declared.fault.Fault.TheVariants.{Ended}
@@ -17,19 +17,18 @@ use Rattle.workpiece.specs.declared.plan.Plan.{Plan}
 use Rattle.workpiece.specs.Changes.{changed}
 use Rattle.workpiece.specs.Modes.{is_inch}
 use Rattle.workpiece.specs.Moves.{planned, planned_by}
-use Rattle.workpiece.specs.Plans.{kept_image, plan_of, named_by}
-use Rattle.workpiece.specs.Setup.{SetupState}
+use Rattle.workpiece.specs.Plans.{kept_image, named_by}
 use Rattle.translator.specs.declared.reply.Reply.{Reply}
 use Rattle.translator.specs.State.{State, point_of}
-use Rattle.translator.specs.Work.{Done, on_reply, ordinary_at, obeyed, running, worked, replied}
+use Rattle.translator.specs.Work.{Done, ordinary_at, obeyed, running, worked, replied}
 use Rattle.shifts.specs.declared.call.Call.{Call}
 use Rattle.shifts.specs.declared.call.Call.TheVariants.{Block as block, Entry, Reset, Read, Ask}
 use Rattle.shifts.specs.Calls.{answer_of, answer_to}
 use Rattle.shifts.specs.Law.{WithoutMachine, Growth}
 use Rattle.shifts.specs.Plain.{Plain}
-use Rattle.shifts.proofs.Small.{three, ok_only, not_ok, by_second}
+use Rattle.shifts.proofs.Small.{three, ok_only, by_second}
 use Rattle.shifts.proofs.Follows.{Follows, select_follows}
-use Rattle.shifts.proofs.Moving.{Image-so, image_so}
+use Rattle.shifts.proofs.Moving.{image_so}
 use Rattle.shifts.proofs.Calls.{change_parts, reply_parts, plan_parts}
 
 abbrev pub Grows : List Step → Reply → Type 0

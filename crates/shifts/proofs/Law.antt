@@ -1,5 +1,5 @@
 -- The law over every shift.
-use Rattle.std.proofs.Common.{◌≡◌, ℕ, ◌*◌, ◌<◌, ◌≤◌, Bool, List, [], ◌∷◌, ◌-ℤ◌, nat_abs, sym, refl, ap, ◌∙◌, subst}
+use Rattle.std.proofs.Common.{◌≡◌, ℕ, ◌*◌, ◌<◌, ◌≤◌, List, [], ◌∷◌, ◌-ℤ◌, nat_abs, sym, subst}
 use Rattle.units.specs.declared.axis.Axis.{Axis}
 use Rattle.units.specs.declared.axis.Point.{Point}
 use Rattle.units.specs.declared.quantity.Tolerance.{Tolerance}
@@ -13,7 +13,7 @@ use Rattle.shifts.specs.declared.call.Answer.{Answer}
 use Rattle.shifts.specs.declared.call.Call.{Call}
 use Rattle.shifts.specs.declared.call.Call.TheVariants.{Block as block, Entry, Reset, Read, Ask}
 use Rattle.shifts.specs.declared.call.Seen.{Seen}
-use Rattle.shifts.specs.Calls.{answer_to, left_after, Shown, ShownAll}
+use Rattle.shifts.specs.Calls.{left_after, Shown, ShownAll}
 use Rattle.shifts.specs.Law.{was_declined, Near, Growth, FifteenAt, Holds, HoldsAll, Law}
 use Rattle.shifts.specs.Plain.{Plain, begun, after}
 use Rattle.shifts.proofs.Calls.{call_follows}

@@ -1,5 +1,5 @@
 -- A move keeps a translator tied to the plain shift.
-use Rattle.std.proofs.Common.{◌≡◌, ℕ, zero, suc, ◌*◌, ◌<◌, ◌≤◌, Bool, true, false, cond, eqb, List, [], ◌∷◌, length, get_or, ℤ, pos, ◌-ℤ◌, nat_abs, is_some, Some, None, Ok, Err, Option, Result, sym, refl, ap, ◌∙◌, subst, arith, lit<}
+use Rattle.std.proofs.Common.{◌≡◌, ℕ, ◌*◌, ◌<◌, ◌≤◌, Bool, false, cond, eqb, List, [], ◌∷◌, get_or, ℤ, ◌-ℤ◌, nat_abs, is_some, Some, None, Ok, Err, Option, Result, sym, refl, ap, ◌∙◌, subst, arith, lit<}
 use Rattle.units.specs.Quantities.{zero_length}
 use Rattle.units.specs.declared.axis.Axis.{Axis}
 use Rattle.units.specs.declared.axis.Axis.TheVariants.{X, Y, Z}
@@ -10,7 +10,7 @@ use Rattle.units.specs.declared.fault.Fault.{Fault}
 use Rattle.units.specs.declared.fault.Fault.TheVariants.{IncrementalMachine}
 use Rattle.units.specs.declared.quantity.Length.{Length}
 use Rattle.units.proofs.Ranged.{length_made}
-use Rattle.fractions.specs.Fractions.{Frac, Within, over, shifted, sum, difference, product}
+use Rattle.fractions.specs.Fractions.{Frac, Within, over, shifted}
 use Rattle.machine.specs.Meaning.{at, each, Meaning}
 use Rattle.machine.specs.Replies.{reply_to, after_move, moved as moved_end}
 use Rattle.chains.specs.declared.step.Step.{Step}
@@ -26,21 +26,18 @@ use Rattle.frames.proofs.Whole.{pushed_sound}
 use Rattle.reader.specs.declared.functions.Distance.{Distance}
 use Rattle.reader.specs.declared.functions.Distance.TheVariants.{Absolute, Incremental}
 use Rattle.blocks.specs.declared.types.Ordinary.{Ordinary}
-use Rattle.workpiece.specs.declared.force.InForce.{InForce}
 use Rattle.workpiece.specs.declared.plan.Plan.{Plan}
 use Rattle.workpiece.specs.Force.{machine_only}
 use Rattle.workpiece.specs.Modes.{is_incremental}
-use Rattle.workpiece.specs.Moves.{workpiece_plan, machine_plan, opened_plan, planned_by, moved}
+use Rattle.workpiece.specs.Moves.{opened_plan}
 use Rattle.workpiece.specs.Places.{all_open, standing, placed_at, units_of}
 use Rattle.workpiece.specs.Plans.{named_by, moved_in, standings, is_far, length_or, values_or, image_in, kept_image, plan_of, opening_all, reckoned}
-use Rattle.workpiece.specs.Selects.{selected}
 use Rattle.workpiece.specs.Settable.{frame_number, offset_of}
 use Rattle.workpiece.specs.Setup.{SetupState}
 use Rattle.translator.specs.State.{State, point_of}
-use Rattle.translator.specs.Work.{with_setup, moved_to}
-use Rattle.shifts.specs.Plain.{Plain, selecting, with_values, value_after, word_at, whole_of, named, moves, new_value, image_of, workpiece_move, word_or, machine_move, moved_by}
+use Rattle.shifts.specs.Plain.{Plain, with_values, value_after, word_at, whole_of, moves, new_value, image_of, workpiece_move, word_or, machine_move}
 use Rattle.shifts.proofs.Small.{three, ok_only, not_ok, by_second, itself, kept_near, kept_positive}
-use Rattle.shifts.proofs.Follows.{Follows, select_follows}
+use Rattle.shifts.proofs.Follows.{Follows}
 use Rattle.shifts.proofs.Plans.{Parts, parts, Accepted, accepted_values, standing_is, unmoved_unnamed, kept_value, whole_is}
 
 -- the exact image depends on the three axes alone

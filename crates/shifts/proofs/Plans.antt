@@ -1,5 +1,5 @@
 -- What an accepted plan is made of.
-use Rattle.std.proofs.Common.{◌≡◌, ℕ, zero, suc, ◌<◌, ◌≤◌, Bool, true, false, cond, ◌&&◌, ltb, List, [], ◌∷◌, get_or, ℤ, pos, nat_abs, is_some, Some, None, Ok, Err, Option, Result, sym, refl, ap, ◌∙◌, subst, arith, lit<, ltb-false}
+use Rattle.std.proofs.Common.{◌≡◌, ℕ, ◌<◌, Bool, true, false, ◌&&◌, ltb, List, get_or, ℤ, nat_abs, is_some, Some, None, Ok, Err, Option, Result, sym, refl, ap, ◌∙◌, subst, arith, ltb-false}
 use Rattle.units.specs.declared.axis.Axis.{Axis}
 use Rattle.units.specs.declared.axis.Axis.TheVariants.{X, Y, Z}
 use Rattle.units.specs.declared.fault.Fault.{Fault}
@@ -8,7 +8,7 @@ use Rattle.units.specs.declared.quantity.Length.{Length}
 use Rattle.units.specs.declared.quantity.Tolerance.{Tolerance}
 use Rattle.units.specs.Quantities.{length_of}
 use Rattle.units.proofs.Ranged.{length_made}
-use Rattle.fractions.specs.Fractions.{Frac, over}
+use Rattle.fractions.specs.Fractions.{over}
 use Rattle.chains.specs.declared.step.Step.{Step}
 use Rattle.chains.specs.Joined.{moved_axes, by_name}
 use Rattle.chains.proofs.Moves.{moved_axes_lem}
@@ -22,7 +22,7 @@ use Rattle.workpiece.specs.Modes.{is_incremental}
 use Rattle.workpiece.specs.Places.{standing, placed_at, units_of}
 use Rattle.workpiece.specs.Plans.{named_by, moved_in, standings, is_far, first_of, unless_axis, open_axis, far_axis, placed, length_or, values_or, image_in, plan_of, on_image, on_placed, reckoned}
 use Rattle.shifts.specs.Plain.{value_after, whole_of}
-use Rattle.shifts.proofs.Small.{three, ok_only, not_ok, not_some, and_false, length_units}
+use Rattle.shifts.proofs.Small.{three, ok_only, not_ok, not_some}
 
 -- a plan comes from values and an image
 pub record Parts (f : InForce) (steps : List Step) (fs : List SettableFrame) (tol : Tolerance) (m : List Bool) (at : List (Option ℤ)) (old : Image) (p : Plan) : Type 0 where

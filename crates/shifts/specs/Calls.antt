@@ -1,5 +1,5 @@
 -- What each call of a shift is answered and leaves, by the rules.
-use Rattle.std.specs.Prelude.{◌≡◌, ℕ, List, [], ◌∷◌, Ok, Err, Result}
+use Rattle.std.specs.Prelude.{◌≡◌, List, [], ◌∷◌, Ok, Err, Result}
 use Rattle.units.specs.declared.fault.Fault.{Fault}
 use Rattle.questions.specs.declared.question.Told.{Told as Told'}
 use Rattle.questions.specs.Questions.{told_of}

@@ -1,5 +1,5 @@
 -- The nearness law over a shift.
-use Rattle.std.specs.Prelude.{◌≡◌, ℕ, ◌+◌, ◌*◌, ◌^◌, ◌<◌, ◌≤◌, Bool, true, false, cond, ◌⊎◌, List, [], ◌∷◌, ℤ, ◌-ℤ◌, Some, None, Ok, Err, Option, Result, slice_index_or, unsigned_abs}
+use Rattle.std.specs.Prelude.{◌≡◌, ℕ, ◌*◌, ◌<◌, ◌≤◌, Bool, true, false, cond, List, [], ◌∷◌, ◌-ℤ◌, Some, None, Ok, Err, Option, Result, slice_index_or, unsigned_abs}
 use Rattle.units.specs.Faults.{decline_of}
 use Rattle.units.specs.declared.axis.Axis.{Axis}
 use Rattle.units.specs.declared.axis.Point.{Point}
@@ -18,7 +18,6 @@ use Rattle.workpiece.specs.declared.plan.Plan.{Plan}
 use Rattle.workpiece.specs.Modes.{is_inch}
 use Rattle.workpiece.specs.Moves.{planned}
 use Rattle.translator.specs.declared.reply.Reading.{Reading}
-use Rattle.translator.specs.declared.reply.Reply.{Reply}
 use Rattle.translator.specs.State.{State, opened, point_of}
 use Rattle.shifts.specs.declared.call.Call.{Call}
 use Rattle.shifts.specs.declared.call.Call.TheVariants.{Block as block, Entry, Reset, Read, Ask}

@@ -1,5 +1,5 @@
 -- An entry that is declined.
-use Rattle.std.proofs.Common.{◌≡◌, ℕ, Ok, Err, Result, sym, refl, ap, ◌∙◌, arith}
+use Rattle.std.proofs.Common.{◌≡◌, ℕ, Ok, Err, Result, ap, arith}
 use Rattle.units.specs.declared.fault.Fault.{Fault}
 use Rattle.workpiece.specs.Changes.{told_of, left_of}
 use Rattle.workpiece.specs.Setup.{SetupState}

@@ -1,9 +1,7 @@
 -- A translator as its calls see it: its pile and its setup.
-use Rattle.std.specs.Prelude.{◌≡◌, ℕ, Bool, true, false, List, [], ◌∷◌, get_or, ℤ, pos, negsuc, Ok, Err, Option, Result, refl}
-use Rattle.std.proofs.Common.{lit≤}
+use Rattle.std.specs.Prelude.{◌≡◌, true, false, List, [], ◌∷◌, pos, negsuc, Option, refl}
 use Rattle.units.specs.declared.axis.Point.{Point}
 use Rattle.units.specs.declared.axis.Side.{Side}
-use Rattle.units.specs.declared.fault.Fault.{Fault}
 use Rattle.units.specs.declared.quantity.Length.{Length}
 use Rattle.units.specs.declared.quantity.Tolerance.{Tolerance}
 use Rattle.machine.specs.declared.bounds.Bounds.{Bounds}

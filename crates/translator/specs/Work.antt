@@ -1,10 +1,9 @@
 -- What each call leaves and replies.
-use Rattle.std.specs.Prelude.{ℕ, Bool, cond, List, ℤ, Some, None, Ok, Err, Option, Result}
+use Rattle.std.specs.Prelude.{ℕ, cond, List, ℤ, Some, None, Ok, Err, Option, Result}
 use Rattle.units.specs.Faults.{at_place}
 use Rattle.units.specs.declared.axis.Point.{Point}
 use Rattle.units.specs.declared.fault.Fault.{Fault}
 use Rattle.units.specs.declared.fault.Fault.TheVariants.{Ended}
-use Rattle.machine.specs.Meaning.{Meaning}
 use Rattle.machine.specs.Replies.{reply_to, after_move}
 use Rattle.blocks.specs.declared.types.Block.{Block}
 use Rattle.blocks.specs.declared.types.Block.TheVariants.{Frame, Limit, Ordinary as ordinary}

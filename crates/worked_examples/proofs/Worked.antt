@@ -1,5 +1,5 @@
 -- The worked examples, by computation.
-use Rattle.std.proofs.Common.{◌≡◌, refl}
+use Rattle.std.proofs.Common.{refl}
 use Rattle.units.specs.Nearest.{nearest}
 use Rattle.turns.specs.Terms.{cut_term}
 use Rattle.turns.specs.Numbers.{octant_c, octant_s, turn_c, turn_s}

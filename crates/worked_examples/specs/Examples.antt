@@ -1,13 +1,13 @@
 -- Worked examples over a scale end of increment 100 and limits of 50,000,000 units either way, at tolerance 100 unless said otherwise.
 use Rattle.std.specs.Prelude.{◌≡◌, ℕ, ◌≤◌, Bool, true, false, List, [], ◌∷◌, replicate, ℤ, pos, negsuc, Ok, Err, codes, Result, refl}
 use Rattle.std.proofs.Common.{lit≤}
-use Rattle.units.specs.declared.axis.Axis.TheVariants.{X, Y, Z}
+use Rattle.units.specs.declared.axis.Axis.TheVariants.{X}
 use Rattle.units.specs.declared.axis.Point.{Point}
 use Rattle.units.specs.declared.fault.Fault.{Fault}
 use Rattle.units.specs.declared.fault.Fault.TheVariants.{Range, Open, Spread, Outside}
 use Rattle.units.specs.declared.quantity.Tolerance.{Tolerance}
 use Rattle.machine.specs.declared.bounds.Bounds.{Bounds}
-use Rattle.machine.specs.Meaning.{Meaning, origin}
+use Rattle.machine.specs.Meaning.{origin}
 use Rattle.machine.specs.Ranges.{within}
 use Rattle.machine.specs.Scale.{scale_meaning}
 use Rattle.translator.specs.declared.reply.Reply.{Reply}

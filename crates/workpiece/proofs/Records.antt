@@ -1,5 +1,5 @@
 -- The record that an entry changes.
-use Rattle.std.proofs.Common.{◌≡◌, ℕ, zero, suc, ◌-◌, ◌<◌, List, [], ◌∷◌, set, Some, sym, refl, ap, ◌∙◌, arith}
+use Rattle.std.proofs.Common.{◌≡◌, ℕ, zero, suc, ◌-◌, ◌<◌, List, [], ◌∷◌, set, Some, ap, ◌∙◌, arith}
 use Rattle.units.specs.declared.quantity.Length.{Length}
 use Rattle.workpiece.specs.declared.settable.SettableFrame.{SettableFrame}
 use Rattle.units.specs.declared.axis.Point.{Point}

@@ -1,5 +1,5 @@
 -- Planning the move of an ordinary block, and what it leaves.
-use Rattle.std.specs.Prelude.{ℕ, Bool, cond, Some, None, Ok, Err, Option, Result}
+use Rattle.std.specs.Prelude.{ℕ, cond, Some, None, Ok, Err, Option, Result}
 use Rattle.units.specs.declared.fault.Fault.{Fault}
 use Rattle.units.specs.declared.fault.Fault.TheVariants.{IncrementalMachine}
 use Rattle.blocks.specs.declared.types.Ordinary.{Ordinary}

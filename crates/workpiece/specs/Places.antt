@@ -1,5 +1,5 @@
 -- Workpiece values: where an axis stands, or none where it is open.
-use Rattle.std.specs.Prelude.{ℕ, Bool, false, cond, List, [], ◌∷◌, ℤ, ◌+ℤ◌, Some, None, Option, slice_index_or}
+use Rattle.std.specs.Prelude.{Bool, false, cond, List, [], ◌∷◌, ℤ, ◌+ℤ◌, Some, None, Option, slice_index_or}
 use Rattle.units.specs.declared.quantity.Length.{Length}
 use Rattle.units.specs.Quantities.{length_of}
 use Rattle.reader.specs.declared.functions.Distance.{Distance}

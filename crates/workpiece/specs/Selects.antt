@@ -1,5 +1,5 @@
 -- What the selections of a block leave.
-use Rattle.std.specs.Prelude.{Bool, cond, ◌||◌, List, Option}
+use Rattle.std.specs.Prelude.{cond, ◌||◌, List, Option}
 use Rattle.units.specs.declared.quantity.Length.{Length}
 use Rattle.blocks.specs.declared.types.Ordinary.{Ordinary}
 use Rattle.workpiece.specs.declared.force.InForce.{InForce}

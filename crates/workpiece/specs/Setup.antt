@@ -1,5 +1,5 @@
 -- What a translator keeps beside its machine, as its calls see it.
-use Rattle.std.specs.Prelude.{ℕ, Bool, true, false, List, [], ◌∷◌, ℤ, Option}
+use Rattle.std.specs.Prelude.{Bool, false, List, [], ◌∷◌, Option}
 use Rattle.units.specs.declared.axis.Point.{Point}
 use Rattle.units.specs.declared.quantity.Length.{Length}
 use Rattle.units.specs.declared.quantity.Tolerance.{Tolerance}

@@ -1,4 +1,4 @@
-use Rattle.std.proofs.Common.{List, vec_items, refl, subst}
+use Rattle.std.proofs.Common.{vec_items, refl, subst}
 use Rattle.translator.specs.State.{State, state_of, opened, Tells}
 use Rattle.shifts.specs.Calls.{Replied}
 use Rattle.shifts.proofs.Law.{law_holds}

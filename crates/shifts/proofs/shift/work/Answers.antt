@@ -1,4 +1,4 @@
-use Rattle.std.proofs.Common.{◌≡◌, ◌+◌, List, vec_items, vec_len, refl, ap, ◌∙◌, arith}
+use Rattle.std.proofs.Common.{◌≡◌, ◌+◌, vec_items, vec_len, refl, ap, ◌∙◌, arith}
 use Rattle.shifts.proofs.Runs.{one_more, all_done, not_failed, none_done}
 use Rattle.shifts.proofs.shift.work.Goals as goal
 

@@ -1,4 +1,4 @@
-use Rattle.std.proofs.Common.{◌≡◌, ℕ, ◌-◌, ◌<◌, List, set, refl, ap, ◌∙◌, arith}
+use Rattle.std.proofs.Common.{◌-◌, List, set, ap, ◌∙◌, arith}
 use Rattle.units.specs.declared.quantity.Length.{Length}
 use Rattle.workpiece.specs.Settable.{frame_of, frame_number}
 use Rattle.workpiece.proofs.Records.{entered_at}
