@@ -1,6 +1,6 @@
 -- What is gathered decides as the words do.
 use Rattle.std.proofs.Common.{◌≡◌, ℕ, ◌<◌, Bool, true, false, cond, ltb, List, [], ◌∷◌, is_some, Some, None, Option, sym, refl, ap, ◌∙◌, arith}
-use Rattle.std.specs.List.{AllByRecursion as All}
+use Rattle.std.specs.List.{AllByRecursion}
 use Rattle.std.proofs.lemmas.Bool.{false≢true}
 use Rattle.std.proofs.lemmas.Bool.Decides.{nat_tests}
 use Rattle.units.specs.declared.axis.Axis.{Axis}
@@ -75,7 +75,7 @@ module _ (test : Number → Bool) where
   axis_one p a s_n q l = tt
   axis_one p a (s_passed b) q l = tt
 
-  axis_below : (p : ℕ) (a : Axis) (ws : List Item) → All (λ y. y.place < p) ws → Below p (place_if test (find (axis_of a) ws))
+  axis_below : (p : ℕ) (a : Axis) (ws : List Item) → AllByRecursion (λ y. y.place < p) ws → Below p (place_if test (find (axis_of a) ws))
   axis_below p a [] l = tt
   axis_below p a (x ∷ ws) l = place_over p (find (axis_of a) ws) (axis_of a x) (axis_below p a ws l.1) (axis_one p a x.says x.place l.0)
 
@@ -124,11 +124,11 @@ module _ (m : Measure) where
   rpl_one p s_n q l = tt
   rpl_one p (s_passed b) q l = tt
 
-  rpl_below : (p : ℕ) (ws : List Item) → All (λ y. y.place < p) ws → Below p (at_rpl ws)
+  rpl_below : (p : ℕ) (ws : List Item) → AllByRecursion (λ y. y.place < p) ws → Below p (at_rpl ws)
   rpl_below p [] l = tt
   rpl_below p (x ∷ ws) l = rpl_over p (find rpl_of ws) (rpl_of x) (rpl_below p ws l.1) (rpl_one p x.says x.place l.0)
 
-  module _ (ws : List Item) (p : ℕ) (l : All (λ y. y.place < p) ws) (ih : least ws ≡ out_of_range_at m ws) where
+  module _ (ws : List Item) (p : ℕ) (l : AllByRecursion (λ y. y.place < p) ws) (ih : least ws ≡ out_of_range_at m ws) where
     none_at : (a : Axis) → is_some (find (axis_of a) ws) ≡ false → at_axis_lem a ws ≡ None
     none_at a e = ap (place_if (bad_axis m)) (some_none (find (axis_of a) ws) e)
 

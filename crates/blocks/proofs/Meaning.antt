@@ -1,6 +1,6 @@
 -- `block_of` means what the rules say.
 use Rattle.std.proofs.Common.{◌≡◌, ℕ, ◌≤◌, Bool, true, false, cond, not, ◌&&◌, ◌||◌, ◌⊎◌, List, [], ◌∷◌, length, get_or, is_some, Some, None, Ok, Err, Option, Result, sym, refl, ap, ◌∙◌, subst, inl, inr, ⊎_elim, MatchResult}
-use Rattle.std.specs.List.{AllByRecursion as All}
+use Rattle.std.specs.List.{AllByRecursion}
 use Rattle.std.proofs.lemmas.Bool.{false≢true, cases_lt}
 use Rattle.units.specs.declared.axis.Axis.{Axis}
 use Rattle.units.specs.declared.axis.Axis.TheVariants.{X, Y, Z}
@@ -71,7 +71,7 @@ hit_some false v w e = absurd (some≢none w (sym e))
 
 -- a slot is empty exactly when no word of the list is its, and else holds one that is
 module _ {X : Type 0} (pick : Item → Option X) where
-  pub find_none : (ws : List Item) → find pick ws ≡ None → All (λ x. pick x ≡ None) ws
+  pub find_none : (ws : List Item) → find pick ws ≡ None → AllByRecursion (λ x. pick x ≡ None) ws
   find_none [] e = tt
   find_none (x ∷ ws) e = let h = over_none (find pick ws) (pick x) e in (h.1, find_none ws h.0)
 
@@ -79,7 +79,7 @@ module _ {X : Type 0} (pick : Item → Option X) where
   find_some [] v e = absurd (some≢none v (sym e))
   find_some (x ∷ ws) v e = ⊎_elim (λ l. let g = find_some ws v l in (g.0, inr g.1, g.2)) (λ r. (x, inl refl, r)) (over_some (find pick ws) (pick x) v e)
 
-  none_find : (ws : List Item) → All (λ x. pick x ≡ None) ws → find pick ws ≡ None
+  none_find : (ws : List Item) → AllByRecursion (λ x. pick x ≡ None) ws → find pick ws ≡ None
   none_find [] h = refl
   none_find (x ∷ ws) h = ap (over (find pick ws)) h.0 ∙ none_find ws h.1
 
@@ -257,10 +257,10 @@ module _ (ws : List Item) where
   step_is a_scale inch h t = (factors (slots_of ws).axes, refl, factors_are h)
   step_is a_mirror inch h t = (is_some (find (axis_of X) ws) ∷ is_some (find (axis_of Y) ws) ∷ is_some (find (axis_of Z) ws) ∷ [], refl, refl, named_are)
 
-  all_left : All (λ x. is_axis x.says ≡ false) ws → leftmost (λ earlier x. is_axis x) ws ≡ None
+  all_left : AllByRecursion (λ x. is_axis x.says ≡ false) ws → leftmost (λ earlier x. is_axis x) ws ≡ None
   all_left h = down ws h
     where
-      down : (vs : List Item) → All (λ x. is_axis x.says ≡ false) vs → leftmost (λ earlier x. is_axis x) vs ≡ None
+      down : (vs : List Item) → AllByRecursion (λ x. is_axis x.says ≡ false) vs → leftmost (λ earlier x. is_axis x) vs ≡ None
       down [] g = refl
       down (x ∷ vs) g = ap (λ b. keep (leftmost (λ earlier s. is_axis s) vs) (hit b x.place)) g.0 ∙ down vs g.1
 
@@ -270,7 +270,7 @@ module _ (ws : List Item) where
   abbrev rpl : Bool
   rpl = is_some (find rpl_of ws)
 
-passed_all : (test : Said → Bool) (ws : List Item) → PassedBy (λ earlier x. test x) ws → All (λ x. test x.says ≡ false) ws
+passed_all : (test : Said → Bool) (ws : List Item) → PassedBy (λ earlier x. test x) ws → AllByRecursion (λ x. test x.says ≡ false) ws
 passed_all test [] h = tt
 passed_all test (x ∷ ws) h = (h.0, passed_all test ws h.1)
 

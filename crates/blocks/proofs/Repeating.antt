@@ -1,6 +1,6 @@
 -- A word is repeated when as many earlier words have its address or group as may stand.
 use Rattle.std.proofs.Common.{◌≡◌, ℕ, ◌+◌, Bool, true, false, cond, ◌||◌, eqb, leb, ◌⊎◌, List, [], ◌∷◌, is_some, Some, None, Option, sym, refl, ap, ◌∙◌, inl, inr, ⊎_elim, zero-add, arith}
-use Rattle.std.specs.List.{AllByRecursion as All}
+use Rattle.std.specs.List.{AllByRecursion}
 use Rattle.std.proofs.lemmas.Bool.{false≢true}
 use Rattle.units.specs.declared.axis.Axis.{Axis}
 use Rattle.reader.specs.declared.functions.GFunction.{GFunction}
@@ -231,7 +231,7 @@ keep_either a None v e = inl e
 keep_either None (Some u) v e = inr (refl, e)
 keep_either (Some t) (Some u) v e = inl e
 
-none_of : (ws : List Item) → instruction ws ≡ None → All (λ x. instructs x.says ≡ None) ws
+none_of : (ws : List Item) → instruction ws ≡ None → AllByRecursion (λ x. instructs x.says ≡ None) ws
 none_of [] e = tt
 none_of (x ∷ ws) e = let h = keep_both (instruction ws) (placed (instructs x.says) x.place) e in (placed_none (instructs x.says) x.place h.1, none_of ws h.0)
 

@@ -1,6 +1,6 @@
 -- What one turn over the words keeps, and where it stops.
 use Rattle.std.proofs.Common.{◌≡◌, ℕ, ◌<◌, ◌≤◌, Bool, true, false, List, [], ◌∷◌, length, Ok, sym, refl, ap, ◌∙◌, arith}
-use Rattle.std.specs.List.{AllByRecursion as All}
+use Rattle.std.specs.List.{AllByRecursion}
 use Rattle.std.proofs.ByRecursion.{All-weaker}
 use Rattle.units.specs.declared.fault.Fault.{Fault}
 use Rattle.units.specs.declared.fault.Fault.TheVariants.{Repeated}
@@ -20,7 +20,7 @@ use Rattle.blocks.proofs.Settled.{settle_on, settle_word, settle_wrong, settle_a
 -- s and o hold the words that begin before p
 pub record Kept (bs : List ℕ) (p : ℕ) (s : Slots) (o : Order) : Type 0 where
   pub words : List Item
-  pub below : All (λ x. x.place < p) words
+  pub below : AllByRecursion (λ x. x.place < p) words
   pub rising : Rising words
   pub right : Unrepeated words
   pub held : s ≡ slots_of words

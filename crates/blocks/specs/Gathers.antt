@@ -1,6 +1,6 @@
 -- What is gathered from a block's words, and where that stops.
 use Rattle.std.specs.Prelude.{◌≡◌, ℕ, ◌<◌, List, [], ◌∷◌, length, Ok, Err}
-use Rattle.std.specs.List.{AllByRecursion as All}
+use Rattle.std.specs.List.{AllByRecursion}
 use Rattle.units.specs.declared.fault.Fault.{Fault}
 use Rattle.reader.specs.declared.types.Item.{Item}
 use Rattle.reader.specs.WordList.{words as word_list}
@@ -12,7 +12,7 @@ use Rattle.blocks.specs.Block.{settle}
 -- each word stands to the right of those before it
 abbrev pub Rising : List Item → Type 0
 Rising [] = Unit {0}
-Rising (x ∷ earlier) = All (λ y. y.place < x.place) earlier × Rising earlier
+Rising (x ∷ earlier) = AllByRecursion (λ y. y.place < x.place) earlier × Rising earlier
 
 abbrev pub Stops : List ℕ → Fault → Type 0
 Stops bs f = settle (word_list bs (length bs)) ≡ Err f

@@ -1,6 +1,6 @@
 -- What `block_of` means, as relations over the block's words.
 use Rattle.std.specs.Prelude.{◌≡◌, ℕ, ◌<◌, ◌≤◌, Bool, true, false, ◌⊎◌, List, [], ◌∷◌, ◌++◌, length, is_some, Some, None, Ok, Err, Option, Result, slice_index_or}
-use Rattle.std.specs.List.{AllByRecursion as All}
+use Rattle.std.specs.List.{AllByRecursion}
 use Rattle.units.specs.declared.axis.Axis.{Axis}
 use Rattle.units.specs.declared.fault.Fault.{Fault}
 use Rattle.units.specs.declared.fault.Fault.TheVariants.{TooLong, Repeated, Misplaced, Unfit, Range}
@@ -77,7 +77,7 @@ PassedBy test (x ∷ earlier) = (test earlier x.says ≡ false) × PassedBy test
 -- o is the value of the axis word of a, which is in range; none where the block has no such word
 pub data ValueOf {V : Type 0} (value : Number → Option V) (ws : List Item) (a : Axis) (o : Option V) : Type 0 where
   given : (n : Number) (p : ℕ) (v : V) → Among ws (record { says = s_axis a n; place = p }) → value n ≡ Some v → o ≡ Some v → ValueOf value ws a o
-  absent : All (λ x. axis_of a x ≡ None) ws → o ≡ None → ValueOf value ws a o
+  absent : AllByRecursion (λ x. axis_of a x ≡ None) ws → o ≡ None → ValueOf value ws a o
 
 -- vs has the value of each axis
 abbrev pub Values : {V : Type 0} → (Number → Option V) → List Item → List (Option V) → Type 0
@@ -98,7 +98,7 @@ StepIs a_mirror inch ws s = (bs : List Bool) × (s ≡ Mirror bs) × (length bs 
 
 -- no axis word and no RPL word
 abbrev pub Bare : List Item → Type 0
-Bare ws = All (λ x. is_axis x.says ≡ false) ws × All (λ x. rpl_of x ≡ None) ws
+Bare ws = AllByRecursion (λ x. is_axis x.says ≡ false) ws × AllByRecursion (λ x. rpl_of x ≡ None) ws
 
 abbrev pub ChangeIs : StepKind → Bool → Bool → List Item → FrameChange → Type 0
 ChangeIs kind additive inch ws Empty = (additive ≡ false) × Bare ws

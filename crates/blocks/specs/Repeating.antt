@@ -1,7 +1,7 @@
 -- What is found among the words of a block, and what a repeated word is: as many earlier words have its address, or
 -- its G group, as may stand in a block.
 use Rattle.std.specs.Prelude.{◌≡◌, ℕ, ◌+◌, Bool, true, false, cond, ◌&&◌, List, [], ◌∷◌, ◌++◌, Some, None, Option, ◌==◌, nat_le}
-use Rattle.std.specs.List.{AllByRecursion as All}
+use Rattle.std.specs.List.{AllByRecursion}
 use Rattle.units.specs.declared.axis.Axis.{Axis}
 use Rattle.reader.specs.declared.functions.MFunction.TheVariants.{End, Other}
 use Rattle.reader.specs.declared.functions.GFunction.{GFunction}
@@ -69,11 +69,11 @@ pub record FirstInstruction (ws : List Item) (i : Placed) : Type 0 where
   pub parts : ws ≡ after ++ word ∷ earlier
   pub is : instructs word.says ≡ Some i.by
   pub place : i.place ≡ word.place
-  pub none : All (λ x. instructs x.says ≡ None) earlier
+  pub none : AllByRecursion (λ x. instructs x.says ≡ None) earlier
 
 -- nothing is found exactly when no word of the list says it, and else what some word says
 pub record Finds {V : Type 0} (pick : Item → Option V) (ws : List Item) : Type 0 where
-  pub none : find pick ws ≡ None → All (λ x. pick x ≡ None) ws
+  pub none : find pick ws ≡ None → AllByRecursion (λ x. pick x ≡ None) ws
   pub some : (v : V) → find pick ws ≡ Some v → (x : Item) × Among ws x × (pick x ≡ Some v)
 
 -- M2 or M30
@@ -98,4 +98,4 @@ pub record Kinds : Type 0 where
   pub ends : (ws : List Item) → ends_m ws ≡ has is_end ws
   pub again : (ws : List Item) (x : Said) → repeated ws x ≡ nat_le (most x) (count (kin x) ws)
   pub first : (ws : List Item) (i : Placed) → instruction ws ≡ Some i → FirstInstruction ws i
-  pub none : (ws : List Item) → instruction ws ≡ None → All (λ x. instructs x.says ≡ None) ws
+  pub none : (ws : List Item) → instruction ws ≡ None → AllByRecursion (λ x. instructs x.says ≡ None) ws

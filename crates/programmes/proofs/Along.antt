@@ -1,5 +1,5 @@
 -- One line more of a text.
-use Rattle.std.proofs.Common.{◌≡◌, ℕ, zero, suc, ◌+◌, ◌<◌, ◌≤◌, Bool, true, false, cond, ◌||◌, leb, ◌⊎◌, List, [], ◌∷◌, ◌++◌, length, take, drop, Ok, Err, Result, sym, refl, ap, ◌∙◌, subst, inl, inr, append_assoc, add-zero, arith, lit≤, length-append, length-drop, leb-false}
+use Rattle.std.proofs.Common.{◌≡◌, ℕ, suc, ◌+◌, ◌<◌, ◌≤◌, Bool, true, false, cond, ◌||◌, ◌⊎◌, List, [], ◌∷◌, ◌++◌, length, take, drop, Ok, Err, Result, sym, refl, ap, ◌∙◌, subst, inl, inr, append_assoc, arith, lit≤, length-append, length-drop, leb-false}
 use Rattle.std.specs.List.{between}
 use Rattle.std.proofs.lemmas.List.{append-nil, take-append-le, take_at}
 use Rattle.units.specs.declared.fault.Fault.{Fault}
@@ -14,8 +14,7 @@ use Rattle.shifts.specs.declared.call.Answer.{Answer}
 use Rattle.shifts.specs.declared.call.Answer.TheVariants.{Replied as Replies, Told, Declined}
 use Rattle.shifts.specs.declared.call.Call.{Call}
 use Rattle.shifts.specs.declared.call.Seen.{Seen}
-use Rattle.shifts.specs.Calls.{answer_of, left_after, Shown, ShownAll, left_all, Replied}
-use Rattle.shifts.specs.Law.{Law}
+use Rattle.shifts.specs.Calls.{answer_of, left_after, ShownAll, left_all, Replied}
 use Rattle.shifts.proofs.Law.{law_holds}
 use Rattle.rolls.specs.Rolls.{RollState, records_of, is_full, extended}
 use Rattle.rolls.proofs.Longer.{no_more, records_more, places_more, more_more}

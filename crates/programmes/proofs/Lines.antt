@@ -1,11 +1,10 @@
 -- The lines of a text are the one way to part it.
-use Rattle.std.proofs.Common.{◌≡◌, ℕ, zero, suc, ◌+◌, ◌-◌, ◌<◌, ◌≤◌, Bool, true, false, cond, eqb, ◌⊎◌, List, [], ◌∷◌, ◌++◌, length, get_or, take, drop, sym, refl, ap, ◌∙◌, subst, inl, inr, arith, lit<, length-take, eq-eqb, eqb-true}
+use Rattle.std.proofs.Common.{◌≡◌, ℕ, ◌+◌, ◌-◌, ◌<◌, ◌≤◌, Bool, true, false, cond, eqb, ◌⊎◌, List, [], ◌∷◌, ◌++◌, length, get_or, take, drop, sym, refl, ap, ◌∙◌, subst, inl, inr, arith, lit<, eqb-true}
 use borrow.Author.Tests.{eqb-false}
 use Rattle.std.specs.List.{between}
 use Rattle.std.proofs.lemmas.List.Edits.{between_more}
 use Rattle.std.proofs.lemmas.List.{take-append-drop, drop-drop, drop_more, drop_all, append-nil, length-take-le, length-drop}
-use Rattle.std.proofs.lemmas.Slice.{between_to_end}
-use Rattle.programmes.specs.Lines.{Line, NoEnd, in_front, lines_from, Lines, LinesStand, EndsAt}
+use Rattle.programmes.specs.Lines.{Line, NoEnd, in_front, lines_from, Lines, EndsAt}
 
 -- one byte more without a byte 10
 pub free_more : (bs : List ℕ) (b : ℕ) → NoEnd bs → (b ≡ 10 → ⊥) → NoEnd (bs ++ b ∷ [])

@@ -1,7 +1,7 @@
 -- A well-shaped word has no byte that is not allowed; an N word is well shaped.
 use Rattle.std.proofs.Common.{◌≡◌, ℕ, zero, suc, ◌+◌, ◌-◌, ◌<◌, Bool, true, false, cond, ◌||◌, List, [], ◌∷◌, map, length, get_or, take, drop, sym, refl, ap, ◌∙◌, subst, ⊎_elim, arith, length-drop}
 use Rattle.std.specs.Char.{is_ascii_digit, is_ascii_alphabetic, to_ascii_uppercase}
-use Rattle.std.specs.List.{prefix_len, AllByRecursion as All}
+use Rattle.std.specs.List.{prefix_len, AllByRecursion}
 use Rattle.std.proofs.ByRecursion.{All-weaker}
 use Rattle.std.proofs.lemmas.List.{get_or-drop}
 use Rattle.std.proofs.lemmas.Bool.{cases_lt}
@@ -17,7 +17,7 @@ use Rattle.reader.proofs.Fronts.{split}
 use Rattle.reader.proofs.Listed.{leading_is, leading_all}
 
 abbrev In : List ℕ → Type 0
-In t = All (λ b. in_word b ≡ true) t
+In t = AllByRecursion (λ b. in_word b ≡ true) t
 
 digit_in : (b : ℕ) → is_ascii_digit b ≡ true → in_word b ≡ true
 digit_in b d = grind (arith, nat_tests)
@@ -67,7 +67,7 @@ follows_in (at_axis a) t h = number_in t h
 follows_in at_rpl t h = turn_in t h
 follows_in (at_name f) t h = subst In (sym h) tt
 
-all_get : (p : ℕ → Bool) (t : List ℕ) → All (λ b. p b ≡ true) t → (k : ℕ) → k < length t → p (get_or t k 0) ≡ true
+all_get : (p : ℕ → Bool) (t : List ℕ) → AllByRecursion (λ b. p b ≡ true) t → (k : ℕ) → k < length t → p (get_or t k 0) ≡ true
 all_get p [] h k l = absurd (omega arith)
 all_get p (b ∷ t) h zero l = h.0
 all_get p (b ∷ t) h (suc k) l = all_get p t h.1 k (omega arith)

@@ -1,7 +1,7 @@
 -- The tests of the shapes say what the shapes say.
 use Rattle.std.proofs.Common.{◌≡◌, ℕ, zero, suc, ◌+◌, ◌<◌, ◌≤◌, Bool, true, false, cond, ◌&&◌, ◌||◌, T, eqb, leb, ◌⊎◌, List, [], ◌∷◌, ◌++◌, length, take, count_by, sym, refl, ap, ◌∙◌, subst, inl, inr, ⊎_elim, append_assoc, append-nil, arith, le→leb, eqb→eq, leb→le}
 use Rattle.std.specs.Char.{is_ascii_digit}
-use Rattle.std.specs.List.{AllByRecursion as All}
+use Rattle.std.specs.List.{AllByRecursion}
 use Rattle.std.proofs.lemmas.List.{length-append, take_all}
 use Rattle.std.proofs.lemmas.List.Elements.{filter-append}
 use Rattle.std.proofs.ByRecursion.{All-push}
@@ -40,15 +40,15 @@ le_is m n e = leb→le m n (subst T (sym e) tt)
 pub eq_is : (a b : ℕ) → eqb a b ≡ true → a ≡ b
 eq_is a b e = eqb→eq a b (subst T (sym e) tt)
 
-every_yes : (p : ℕ → Bool) (t : List ℕ) → All (λ b. p b ≡ true) t → every p t ≡ true
+every_yes : (p : ℕ → Bool) (t : List ℕ) → AllByRecursion (λ b. p b ≡ true) t → every p t ≡ true
 every_yes p [] h = refl
 every_yes p (b ∷ t) h = and (p b) (every p t) h.0 (every_yes p t h.1)
 
-every_is : (p : ℕ → Bool) (t : List ℕ) → every p t ≡ true → All (λ b. p b ≡ true) t
+every_is : (p : ℕ → Bool) (t : List ℕ) → every p t ≡ true → AllByRecursion (λ b. p b ≡ true) t
 every_is p [] e = tt
 every_is p (b ∷ t) e = let h = both (p b) (every p t) e in (h.0, every_is p t h.1)
 
-all_left : {X : Type 0} (P : X → Type 0) (xs ys : List X) → All P (xs ++ ys) → All P xs
+all_left : {X : Type 0} (P : X → Type 0) (xs ys : List X) → AllByRecursion P (xs ++ ys) → AllByRecursion P xs
 all_left P [] ys h = tt
 all_left P (x ∷ xs) ys h = (h.0, all_left P xs ys h.1)
 
@@ -71,7 +71,7 @@ abbrev good : ℕ → Bool
 good b = is_ascii_digit b || is_point b
 
 pub record Front (t : List ℕ) : Type 0 where
-  pub only : All (λ b. (is_ascii_digit b || is_point b) ≡ true) t
+  pub only : AllByRecursion (λ b. (is_ascii_digit b || is_point b) ≡ true) t
   pub most : length (digits t) ≤ 10
   pub point : count_by is_point t ≤ 1
 

@@ -4,7 +4,7 @@ use native.Mathlib.Nat.{pow-le-pow_right}
 use Rattle.std.proofs.lemmas.Slice.{first_rest}
 use Rattle.std.specs.Str.Parse.{digits_value}
 use Rattle.std.specs.Char.{is_ascii_digit, digit_value}
-use Rattle.std.specs.List.{AllByRecursion as All}
+use Rattle.std.specs.List.{AllByRecursion}
 use Rattle.std.proofs.lemmas.List.{take_more, length-append, length_push, take_all}
 use Rattle.std.proofs.lemmas.List.Elements.{filter-append}
 use Rattle.std.proofs.ByRecursion.{All-push}
@@ -14,16 +14,16 @@ use Rattle.std.proofs.lemmas.Bool.{cases_Bool, cases_lt, cases_eq, both_ways, or
 use Rattle.std.proofs.lemmas.Bool.Decides.{nat_tests}
 use Rattle.reader.specs.Shapes.{is_point, is_sign, digits, after_point, decimals, IsMagnitude, IsNumber, IsCode, IsTurn, Begins, FirstWrong, unsigned, negative, signed_by, valued}
 
-all_left : {X : Type 0} (P : X → Type 0) (xs ys : List X) → All P (xs ++ ys) → All P xs
+all_left : {X : Type 0} (P : X → Type 0) (xs ys : List X) → AllByRecursion P (xs ++ ys) → AllByRecursion P xs
 all_left P [] ys h = tt
 all_left P (x ∷ xs) ys h = (h.0, all_left P xs ys h.1)
 
-all_last : {X : Type 0} (P : X → Type 0) (xs : List X) (x : X) (u : List X) → All P ((xs ++ x ∷ []) ++ u) → P x
+all_last : {X : Type 0} (P : X → Type 0) (xs : List X) (x : X) (u : List X) → AllByRecursion P ((xs ++ x ∷ []) ++ u) → P x
 all_last P [] x u h = h.0
 all_last P (y ∷ xs) x u h = all_last P xs x u h.1
 
 abbrev pub OnlyDigits : List ℕ → Type 0
-OnlyDigits t = All (λ b. is_ascii_digit b ≡ true) t
+OnlyDigits t = AllByRecursion (λ b. is_ascii_digit b ≡ true) t
 
 -- Codes: the text so far
 
@@ -47,7 +47,7 @@ code_more t b h d l = record { only = All-push _ t b h.only d; most = omega (ari
 -- Magnitudes: the text so far, with its value, how many digits and decimals it has, and whether it has a point
 
 abbrev Only : List ℕ → Type 0
-Only t = All (λ b. (is_ascii_digit b || is_point b) ≡ true) t
+Only t = AllByRecursion (λ b. (is_ascii_digit b || is_point b) ≡ true) t
 
 pub record Sofar (t : List ℕ) (n ds fs : ℕ) (point : Bool) : Type 0 where
   pub only : Only t

@@ -1,6 +1,6 @@
 -- The list of words has the maximal runs, and no other.
 use Rattle.std.proofs.Common.{◌≡◌, ℕ, zero, suc, ◌+◌, ◌<◌, ◌≤◌, true, false, cond, List, ◌∷◌, length, drop, sym, ap, subst, inl, inr, ⊎_elim, arith}
-use Rattle.std.specs.List.{prefix_len, AllByRecursion as All}
+use Rattle.std.specs.List.{prefix_len, AllByRecursion}
 use Rattle.std.proofs.ByRecursion.{All-weaker}
 use Rattle.std.proofs.lemmas.Bool.{cases_lt}
 use Rattle.reader.specs.Runs.{IsRun, part}
@@ -28,13 +28,13 @@ module _ (bs : List ℕ) where
       (λ n. only_to p (omega arith) r (subst (λ w. In w r) (no_at p n) i))
       (split (starts bs p))
 
-  below : (p : ℕ) → All (λ r. r.at < p) (words bs p)
+  below : (p : ℕ) → AllByRecursion (λ r. r.at < p) (words bs p)
   below zero = tt
   below (suc p) =
       let rest = All-weaker (λ r. r.at < p) (λ r. r.at < suc p) (λ r l. omega arith) (words bs p) (below p) in
       ⊎_elim
-      (λ y. subst (All (λ r. r.at < suc p)) (sym (yes_at p y)) (omega arith, rest))
-      (λ n. subst (All (λ r. r.at < suc p)) (sym (no_at p n)) rest)
+      (λ y. subst (AllByRecursion (λ r. r.at < suc p)) (sym (yes_at p y)) (omega arith, rest))
+      (λ n. subst (AllByRecursion (λ r. r.at < suc p)) (sym (no_at p n)) rest)
       (split (starts bs p))
 
   later_to : (p : ℕ) → Later (words bs p)

@@ -2,7 +2,7 @@
 use Rattle.std.specs.Prelude.{◌≡◌, ℕ, ◌+◌, ◌<◌, ◌≤◌, Bool, true, false, cond, ◌||◌, List, [], ◌∷◌, ◌++◌, length, take, ℤ, pos, neg_ℤ, count_by, filter, ◌==◌}
 use Rattle.std.specs.Str.Parse.{digits_value}
 use Rattle.std.specs.Char.{is_ascii_digit}
-use Rattle.std.specs.List.{AllByRecursion as All}
+use Rattle.std.specs.List.{AllByRecursion}
 
 abbrev pub is_point : ℕ → Bool
 is_point b = b == 46
@@ -24,7 +24,7 @@ decimals s = length (digits (after_point s))
 
 -- 1 to 10 digits and at most one point
 pub record IsMagnitude (s : List ℕ) : Type 0 where
-  pub only : All (λ b. (is_ascii_digit b || is_point b) ≡ true) s
+  pub only : AllByRecursion (λ b. (is_ascii_digit b || is_point b) ≡ true) s
   pub some : 1 ≤ length (digits s)
   pub most : length (digits s) ≤ 10
   pub point : count_by is_point s ≤ 1
@@ -52,7 +52,7 @@ valued s = signed_by (negative s) (digits_value 10 (digits (unsigned s)))
 
 -- 1 to 8 digits
 pub record IsCode (s : List ℕ) : Type 0 where
-  pub only : All (λ b. is_ascii_digit b ≡ true) s
+  pub only : AllByRecursion (λ b. is_ascii_digit b ≡ true) s
   pub some : 1 ≤ length s
   pub most : length s ≤ 8
 

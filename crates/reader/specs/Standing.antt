@@ -1,6 +1,6 @@
 -- The list of words has the maximal runs of a block, each once, the latest first.
 use Rattle.std.specs.Prelude.{◌≡◌, ℕ, ◌<◌, ◌⊎◌, List, [], ◌∷◌, length}
-use Rattle.std.specs.List.{AllByRecursion as All}
+use Rattle.std.specs.List.{AllByRecursion}
 use Rattle.reader.specs.Runs.{IsRun, part}
 use Rattle.reader.specs.WordList.{Run, words}
 
@@ -10,7 +10,7 @@ In (x ∷ xs) r = (x ≡ r) ⊎ In xs r
 
 abbrev pub Later : List Run → Type 0
 Later [] = Unit {0}
-Later (x ∷ xs) = All (λ y. y.at < x.at) xs × Later xs
+Later (x ∷ xs) = AllByRecursion (λ y. y.at < x.at) xs × Later xs
 
 -- r is a longest run without space or `;` before any `;`
 pub record Maximal (bs : List ℕ) (r : Run) : Type 0 where

@@ -1,4 +1,4 @@
-use Rattle.std.proofs.Common.{◌≡◌, true, false, sym, refl, ap, ◌∙◌, arith}
+use Rattle.std.proofs.Common.{sym, refl, ap, ◌∙◌, arith}
 use Rattle.rolls.specs.declared.roll.Roll.{Roll}
 use Rattle.rolls.specs.Rolls.{roll_of, is_full}
 use Rattle.translator.specs.declared.reply.Reading.{Reading}
