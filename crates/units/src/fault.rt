@@ -5,7 +5,7 @@ pub mod told;
 
 /// One case for each of the 17 declines. A place counts bytes from 0 in the block, an axis is the one told,
 /// a step counts from 1 at the outermost, a level from 0 at the topmost box.
-#[derive(Clone, Copy)]
+#[derive(Clone, Copy, PartialEq, Eq, Debug)]
 pub enum Fault {
     /// 1: the block has more than 512 bytes.
     TooLong,
@@ -44,7 +44,7 @@ pub enum Fault {
 }
 
 /// Which part of the product declines.
-#[derive(Clone, Copy)]
+#[derive(Clone, Copy, PartialEq, Eq, Debug)]
 pub enum Layer {
     Reader,
     Block,
@@ -54,7 +54,7 @@ pub enum Layer {
 }
 
 /// What is told of a fault; a value that its case does not use is 0.
-#[derive(Clone, Copy)]
+#[derive(Clone, Copy, PartialEq, Eq, Debug)]
 pub struct Decline {
     pub number: u8,
     pub layer: Layer,
