@@ -1,17 +1,19 @@
 -- What is told of each fault: number, layer, place, axis, step and level.
-use Rattle.std.specs.Prelude.{ℕ}
-use Rattle.units.specs.declared.axis.Axis.{Axis}
-use Rattle.units.specs.declared.axis.Axis.TheVariants.{X, Y, Z}
+use Rattle.std.specs.Prelude.{ℕ, List, codes}
+use Rattle.units.specs.Axes.{axis_number}
 use Rattle.units.specs.declared.fault.Fault.{Fault}
 use Rattle.units.specs.declared.fault.Fault.TheVariants.{TooLong, Byte, Shape, Unknown, Repeated, Misplaced, Unfit, Range, Ended, ChainFull, IncrementalMachine, Open, Beyond, Spread, Outside, RollFull, Argument}
 use Rattle.units.specs.declared.fault.Layer.{Layer}
 use Rattle.units.specs.declared.fault.Layer.TheVariants.{Reader, Block, Frame, Machine, Call}
 use Rattle.units.specs.declared.fault.Decline.{Decline}
 
-abbrev pub axis_number : Axis → ℕ
-axis_number X = 1
-axis_number Y = 2
-axis_number Z = 3
+-- the part of the product that declines, as it is written
+abbrev pub layer_name : Layer → List ℕ
+layer_name Reader = codes "reader"
+layer_name Block = codes "block"
+layer_name Frame = codes "frame"
+layer_name Machine = codes "machine"
+layer_name Call = codes "call"
 
 -- number, layer, place, axis, step, level
 abbrev row : ℕ → Layer → ℕ → ℕ → ℕ → ℕ → Decline

@@ -25,8 +25,6 @@ pub fn div_nearest(dividend: Dividend, divisor: Divisor) -> i64
 }
 
 /// What `div_nearest` promises is met by one number only.
-pub fn nearest_is_one() -> u8
+pub fn nearest_is_one()
     ensures { OnlyOne }
-{
-    0
-}
+{}

@@ -1,5 +1,9 @@
 // Why a call is declined, for the whole product.
+ghost use Rattle.std.specs.Prelude.{Some};
+ghost use Rattle.units.specs.Faults.{layer_name};
+
 use crate::axis::Axis;
+use std::fmt;
 
 pub mod told;
 
@@ -51,6 +55,20 @@ pub enum Layer {
     Frame,
     Machine,
     Call,
+}
+
+impl fmt::Display for Layer {
+    ghost output = { λ layer. Some (layer_name layer) };
+
+    fn fmt<W: fmt::Write>(&self, f: &mut fmt::Formatter<W>) -> fmt::Result {
+        f.write_str(match self {
+            Layer::Reader => "reader",
+            Layer::Block => "block",
+            Layer::Frame => "frame",
+            Layer::Machine => "machine",
+            Layer::Call => "call",
+        })
+    }
 }
 
 /// What is told of a fault; a value that its case does not use is 0.

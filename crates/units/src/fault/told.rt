@@ -1,22 +1,8 @@
 // What is told of a fault.
 ghost use Rattle.std.specs.Prelude.{◌≡◌};
-ghost use Rattle.units.specs.Faults.{axis_number, at_place, decline_of};
+ghost use Rattle.units.specs.Faults.{at_place, decline_of};
 
-use crate::axis::Axis;
 use crate::fault::{Decline, Fault, Layer};
-
-impl Axis {
-    /// X is 1, Y 2 and Z 3.
-    pub fn number(self) -> u8
-        ensures { result ≡ axis_number self }
-    {
-        match self {
-            Axis::X => 1,
-            Axis::Y => 2,
-            Axis::Z => 3,
-        }
-    }
-}
 
 // A fault that has a place and nothing else.
 fn at_place(number: u8, layer: Layer, place: usize) -> Decline
