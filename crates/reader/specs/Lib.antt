@@ -1,6 +1,7 @@
 pub mod Runs
 pub mod Shapes
 pub mod Words
+pub mod Printed
 pub mod Following
 pub mod Pieces
 pub mod WordList
