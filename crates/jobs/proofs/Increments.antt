@@ -4,7 +4,7 @@ use Rattle.std.specs.Result.{OkIff}
 use Rattle.std.proofs.lemmas.Bool.{and_right, lt-leb, cases_lt}
 use Rattle.units.specs.declared.axis.Point.{Point}
 use Rattle.units.specs.declared.fault.Fault.{Fault}
-use Rattle.machine.specs.declared.motors.Increments.{Increments}
+use Rattle.machine.specs.Motors.{Increments}
 use Rattle.machine.specs.Made.{MadeWhere}
 use Rattle.machine.specs.Ranges.{increment_fits}
 use Rattle.machine.specs.Count.{increments_fit}

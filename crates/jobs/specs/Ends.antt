@@ -4,7 +4,7 @@ use Rattle.units.specs.declared.axis.Point.{Point}
 use Rattle.units.specs.declared.fault.Fault.{Fault}
 use Rattle.units.specs.declared.fault.Fault.TheVariants.{Argument}
 use Rattle.machine.specs.Ranges.{within, increment_fits}
-use Rattle.machine.specs.declared.motors.Increments.{Increments}
+use Rattle.machine.specs.Motors.{Increments}
 use Rattle.script.specs.declared.call.Limits.{Limits}
 use Rattle.script.specs.declared.call.Call.{Call}
 use Rattle.script.specs.declared.call.Call.TheVariants.{ScaleEnd, CountEnd, Area, Move, Ask, New, Block, Entry, Reset, Read, Rolls, Programme, Check}

@@ -1,25 +1,12 @@
 -- The count end: motors that stand on whole counts.
 use Rattle.std.specs.Prelude.{ℕ, ◌+◌, ◌-◌, ◌*◌, ◌/◌, Bool, ◌&&◌, [], ◌∷◌, ℤ, pos, negsuc, ◌*ℤ◌}
 use Rattle.units.specs.Nearest.{nearest}
-use Rattle.units.specs.declared.axis.Axis.{Axis}
-use Rattle.units.specs.declared.axis.Axis.TheVariants.{X, Y, Z}
+use Rattle.units.specs.Axes.{on_axis}
 use Rattle.units.specs.declared.axis.Point.{Point}
 use Rattle.machine.specs.declared.bounds.Bounds.{Bounds}
-use Rattle.machine.specs.declared.motors.Increments.{Increments}
-use Rattle.machine.specs.declared.motors.Counts.{Counts}
+use Rattle.machine.specs.Motors.{Increments, Counts}
 use Rattle.machine.specs.Ranges.{increment_fits}
 use Rattle.machine.specs.Meaning.{Meaning}
-
--- the count length of an axis
-abbrev pub length_on : Increments → Axis → ℕ
-length_on i X = i.x
-length_on i Y = i.y
-length_on i Z = i.z
-
-abbrev pub count_on : Counts → Axis → ℤ
-count_on k X = k.x
-count_on k Y = k.y
-count_on k Z = k.z
 
 unfoldable pub increments_fit : Increments → Bool
 increments_fit i = increment_fits i.x && (increment_fits i.y && increment_fits i.z)
@@ -48,4 +35,4 @@ no_counts = record { x = pos 0; y = pos 0; z = pos 0 }
 
 -- one box, a count length for each axis, and the position of the counts held
 abbrev pub count_meaning : Increments → Bounds → Counts → Meaning
-count_meaning i b k = record { boxes = b ∷ []; increment = length_on i; rounding = λ a v. standing (length_on i a) (lower_count (length_on i a) v); held = standing_at i k }
+count_meaning i b k = record { boxes = b ∷ []; increment = on_axis i; rounding = λ a v. standing (on_axis i a) (lower_count (on_axis i a) v); held = standing_at i k }

@@ -8,15 +8,16 @@ use Rattle.units.specs.declared.axis.Axis.{Axis}
 use Rattle.units.specs.declared.axis.Axis.TheVariants.{X, Y, Z}
 use Rattle.units.specs.declared.axis.Point.{Point}
 use Rattle.units.proofs.Round.{nearest_near}
-use Rattle.machine.specs.declared.motors.Increments.{Increments}
-use Rattle.machine.specs.declared.motors.Counts.{Counts}
+use Rattle.machine.specs.Motors.{Increments, Counts}
+use Rattle.units.specs.Axes.{on_axis}
 use Rattle.machine.specs.Ranges.{within, increment_fits}
 use Rattle.machine.specs.Meaning.{at, each}
-use Rattle.machine.specs.Count.{length_on, count_on, increments_fit, lower_count, lower_counts, standing, standing_at, no_counts}
+use Rattle.machine.specs.Count.{increments_fit, lower_count, lower_counts, standing, standing_at, no_counts}
+use Rattle.units.specs.Axes.{on_axis}
 use Rattle.machine.specs.RangesLemmas.{on_axis_lem, by_axis, same_within, increment_least, increment_most}
 use Rattle.machine.specs.Nearness.{each_fits}
 
-pub length_fits : (i : Increments) → increments_fit i ≡ true → (a : Axis) → increment_fits (length_on i a) ≡ true
+pub length_fits : (i : Increments) → increments_fit i ≡ true → (a : Axis) → increment_fits (on_axis i a) ≡ true
 unfolding increments_fit
 length_fits i e X = ((and-eq-true_iff _ _).0 e).0
 length_fits i e Y = ((and-eq-true_iff _ _).0 ((and-eq-true_iff (increment_fits i.x) _).0 e).1).0
@@ -33,12 +34,12 @@ count_near d (pos n) h = apart d n ((2 * n + (d - 1)) / (2 * d) * d) (down_near 
 count_near d (negsuc n) h = (nearest_near (negsuc n) d h).close
 
 abbrev rounded : Increments → Axis → ℤ → ℤ
-rounded i a v = standing (length_on i a) (lower_count (length_on i a) v)
+rounded i a v = standing (on_axis i a) (lower_count (on_axis i a) v)
 
 pub counts_within : (i : Increments) (p : Point) (k : Counts) → increments_fit i ≡ true → within 2000000000 p ≡ true → k ≡ lower_counts i p → within 2000050000 (standing_at i k) ≡ true
 counts_within i p k s w e =
     same_within _ (standing_at i k) (each (rounded i) p) (ap (standing_at i) e)
-    (each_fits (length_on i) (rounded i) p (λ a. increment_most _ (length_fits i s a)) w (λ a v. count_near _ v (increment_least _ (length_fits i s a))))
+    (each_fits (on_axis i) (rounded i) p (λ a. increment_most _ (length_fits i s a)) w (λ a v. count_near _ v (increment_least _ (length_fits i s a))))
 
 pub start_within : (i : Increments) → within 2000050000 (standing_at i no_counts) ≡ true
 start_within i = by_axis _ (standing_at i no_counts) nought
@@ -48,12 +49,12 @@ start_within i = by_axis _ (standing_at i no_counts) nought
     nought Y = omega arith
     nought Z = omega arith
 
-on : (i : Increments) (k : Counts) → within 2000050000 (standing_at i k) ≡ true → (a : Axis) → unsigned_abs (standing (length_on i a) (count_on k a)) ≤ 2000050000
+on : (i : Increments) (k : Counts) → within 2000050000 (standing_at i k) ≡ true → (a : Axis) → unsigned_abs (standing (on_axis i a) (on_axis k a)) ≤ 2000050000
 on i k w X = on_axis_lem _ (standing_at i k) w X
 on i k w Y = on_axis_lem _ (standing_at i k) w Y
 on i k w Z = on_axis_lem _ (standing_at i k) w Z
 
-pub standing_fits : (i : Increments) (k : Counts) → within 2000050000 (standing_at i k) ≡ true → (a : Axis) (d : ℕ) (v : ℤ) → FitsSigned w64 v → d ≡ length_on i a → v ≡ count_on k a → unsigned_abs (standing d (to_z w64 (of_z w64 v))) ≤ 2000050000
+pub standing_fits : (i : Increments) (k : Counts) → within 2000050000 (standing_at i k) ≡ true → (a : Axis) (d : ℕ) (v : ℤ) → FitsSigned w64 v → d ≡ on_axis i a → v ≡ on_axis k a → unsigned_abs (standing d (to_z w64 (of_z w64 v))) ≤ 2000050000
 standing_fits i k w a d v f e h =
-    let same : standing (length_on i a) (count_on k a) ≡ standing d (to_z w64 (of_z w64 v)) = ap (λ z. standing (length_on i a) z) (sym h ∙ sym (to_z-of_z w64 v f)) ∙ ap (λ n. standing n (to_z w64 (of_z w64 v))) (sym e) in
+    let same : standing (on_axis i a) (on_axis k a) ≡ standing d (to_z w64 (of_z w64 v)) = ap (λ z. standing (on_axis i a) z) (sym h ∙ sym (to_z-of_z w64 v f)) ∙ ap (λ n. standing n (to_z w64 (of_z w64 v))) (sym e) in
     subst (λ z. unsigned_abs z ≤ 2000050000) same (on i k w a)

@@ -1,5 +1,6 @@
 pub mod Ranges
 pub mod Made
+pub mod Motors
 pub mod Meaning
 pub mod Replies
 pub mod Joined

@@ -1,17 +1,12 @@
 -- What a machine end means, and what every end owes.
 use Rattle.std.specs.Prelude.{ℕ, ◌*◌, ◌<◌, ◌≤◌, List, [], ◌∷◌, length, ℤ, pos, ◌-ℤ◌, unsigned_abs}
+pub use Rattle.units.specs.Axes.{at}
 use Rattle.units.specs.declared.axis.Axis.{Axis}
 use Rattle.units.specs.declared.axis.Axis.TheVariants.{X, Y, Z}
 use Rattle.units.specs.declared.axis.Side.{Side}
 use Rattle.units.specs.declared.axis.Side.TheVariants.{Lower, Upper}
 use Rattle.units.specs.declared.axis.Point.{Point}
 use Rattle.machine.specs.declared.bounds.Bounds.{Bounds}
-
--- a point's coordinate on an axis
-abbrev pub at : Point → Axis → ℤ
-at p X = p.x
-at p Y = p.y
-at p Z = p.z
 
 -- each coordinate by the function of its axis
 abbrev pub each : (Axis → ℤ → ℤ) → Point → Point

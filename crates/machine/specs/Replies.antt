@@ -1,5 +1,6 @@
 -- What an end replies to a move and to a question, and what a move leaves.
-use Rattle.std.specs.Prelude.{ℕ, zero, suc, ◌+◌, min, Bool, false, cond, ◌||◌, List, [], ◌∷◌, length, ℤ, Ok, Err, Result, ◌==◌, int_lt}
+use Rattle.std.specs.Prelude.{ℕ, zero, suc, ◌+◌, min, Bool, false, cond, ◌||◌, List, [], ◌∷◌, length, ℤ, Ok, Err, Result, int_lt}
+use Rattle.units.specs.Axes.{axis_of}
 use Rattle.units.specs.declared.axis.Axis.{Axis}
 use Rattle.units.specs.declared.axis.Axis.TheVariants.{X, Y, Z}
 use Rattle.units.specs.declared.axis.Side.{Side}
@@ -56,10 +57,6 @@ moved m p (Err f) = m
 -- a move that is taken leaves the roundings of its coordinates held; one that is not leaves all as it was
 abbrev pub after_move : Meaning → Point → Meaning
 after_move m p = moved m p (reply_to m p)
-
--- axes are numbered from 1
-abbrev pub axis_of : ℕ → Result Axis Fault
-axis_of n = cond (n == 1) (Ok X) (cond (n == 2) (Ok Y) (cond (n == 3) (Ok Z) (Err Argument)))
 
 -- what is told of the axis with that number
 abbrev pub asked : {T : Type 0} → Result Axis Fault → (Axis → T) → Result T Fault

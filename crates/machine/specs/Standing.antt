@@ -1,6 +1,6 @@
 -- What the replies and the roundings mean, as relations.
 use Rattle.std.specs.Prelude.{◌≡◌, ℕ, ◌*◌, ◌<◌, ◌≤◌, min, List, ℤ, pos, ◌-ℤ◌, ◌≤ℤ◌, Ok, Err, unsigned_abs}
-use Rattle.units.specs.Faults.{axis_number}
+use Rattle.units.specs.Axes.{axis_number}
 use Rattle.units.specs.Nearest.{Nearest, nearest}
 use Rattle.units.specs.declared.axis.Axis.{Axis}
 use Rattle.units.specs.declared.axis.Point.{Point}

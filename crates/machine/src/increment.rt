@@ -1,10 +1,9 @@
 // The range of increments.
 ghost use Rattle.std.specs.Prelude.{◌≡◌};
 ghost use Rattle.machine.specs.Ranges.{increment_fits};
-ghost use Rattle.machine.specs.Count.{increments_fit, length_on};
+ghost use Rattle.machine.specs.Count.{increments_fit};
 
 use crate::motors::Increments;
-use units::axis::Axis;
 
 const LONGEST: u32 = 100_000;
 
@@ -20,15 +19,4 @@ pub fn fair_increments(increments: Increments) -> bool
     ensures { result ≡ increments_fit increments }
 {
     fair_increment(increments.x) && fair_increment(increments.y) && fair_increment(increments.z)
-}
-
-/// The count length of an axis.
-pub fn length_on(increments: Increments, axis: Axis) -> u32
-    ensures { result ≡ length_on increments axis }
-{
-    match axis {
-        Axis::X => increments.x,
-        Axis::Y => increments.y,
-        Axis::Z => increments.z,
-    }
 }

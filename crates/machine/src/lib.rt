@@ -2,7 +2,6 @@
 #![tactic(auto)]
 
 pub mod area;
-pub mod axes;
 pub mod bounds;
 pub mod count;
 pub mod end;

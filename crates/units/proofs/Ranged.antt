@@ -23,20 +23,10 @@ pub none_where : {A : Type 0} (a b : ℕ) (f : a ≤ b → Option A) → b < a �
 none_where a b f h = tested_none a b f h (leb a b) refl
 
 -- two of the same value are one
-pub same_length : (a b : Length) → a.units ≡ b.units → a ≡ b
-same_length a b e =
-    let P : ℤ → Type 0 = λ u. (k : nat_abs u ≤ 999999999) → ◌≡◌ {A = Length} a (record { units = u; most = k }) in
-    subst P e (λ k. ap (λ (p : nat_abs a.units ≤ 999999999). record { units = a.units; most = p }) (le_prop a.most k)) b.most
-
 pub same_angle : (a b : Angle) → a.ticks ≡ b.ticks → a ≡ b
 same_angle a b e =
     let P : ℕ → Type 0 = λ u. (k : u < 3600000) → ◌≡◌ {A = Angle} a (record { ticks = u; below = k }) in
     subst P e (λ k. ap (λ (p : a.ticks < 3600000). record { ticks = a.ticks; below = p }) (le_prop a.below k)) b.below
-
-pub same_factor : (a b : Factor) → a.parts ≡ b.parts → a ≡ b
-same_factor a b e =
-    let P : ℕ → Type 0 = λ u. (s : 1 ≤ u) (k : u ≤ 10000000) → ◌≡◌ {A = Factor} a (record { parts = u; some = s; most = k }) in
-    subst P e (λ s k. λ i. record { parts = a.parts; some = le_prop a.some s i; most = le_prop a.most k i }) b.some b.most
 
 -- each is what its maker makes of its value
 pub length_made : (l : Length) → length_of l.units ≡ Some l
@@ -50,25 +40,11 @@ factor_made f =
     made_where 1 f.parts (λ s. where_≤ f.parts 10000000 (λ m. Some (record { parts = f.parts; some = s; most = m }))) f.some ∙
     made_where f.parts 10000000 (λ m. Some (record { parts = f.parts; some = f.some; most = m })) f.most
 
-pub factor_zero : (n : ℕ) → n < 1 → factor_of n ≡ None
-factor_zero n h = none_where 1 n (λ s. where_≤ n 10000000 (λ m. Some (record { parts = n; some = s; most = m }))) h
-
-pub factor_large : (n : ℕ) → 1 ≤ n → 10000000 < n → factor_of n ≡ None
-factor_large n s h =
-    made_where 1 n (λ s. where_≤ n 10000000 (λ m. Some (record { parts = n; some = s; most = m }))) s ∙
-    none_where n 10000000 (λ m. Some (record { parts = n; some = s; most = m })) h
-
 pub angle_made : (a : Angle) → angle_of a.ticks ≡ Some a
 angle_made a = made_where (suc a.ticks) 3600000 (λ h. Some (record { ticks = a.ticks; below = h })) a.below
 
-pub angle_none : (n : ℕ) → 3600000 ≤ n → angle_of n ≡ None
-angle_none n h = none_where (suc n) 3600000 (λ k. Some (record { ticks = n; below = k })) (omega arith)
-
 pub tolerance_made : (t : Tolerance) → tolerance_of t.units ≡ Some t
 tolerance_made t = made_where t.units 100000 (λ h. Some (record { units = t.units; most = h })) t.most
-
-pub tolerance_none : (n : ℕ) → 100000 < n → tolerance_of n ≡ None
-tolerance_none n h = none_where n 100000 (λ k. Some (record { units = n; most = k })) h
 
 pub length_is : (l : Length) (z : ℤ) → l.units ≡ z → Some l ≡ length_of z
 length_is l z e = sym (length_made l) ∙ ap length_of e

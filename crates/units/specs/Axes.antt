@@ -1,9 +1,10 @@
--- Axes by number, planes by name, and a value for each axis.
-use Rattle.std.specs.Prelude.{ℕ, List, cond, Result, Ok, Err, ◌==◌, codes}
+-- Axes by number, planes by name, and what a point or three values say of an axis.
+use Rattle.std.specs.Prelude.{ℕ, ℤ, List, cond, Result, Ok, Err, ◌==◌, codes}
 use Rattle.units.specs.declared.axis.Axis.{Axis}
 use Rattle.units.specs.declared.axis.Axis.TheVariants.{X, Y, Z}
 use Rattle.units.specs.declared.axis.Plane.{Plane}
 use Rattle.units.specs.declared.axis.Plane.TheVariants.{Xy, Zx, Yz}
+use Rattle.units.specs.declared.axis.Point.{Point}
 use Rattle.units.specs.declared.axis.ByAxis.{ByAxis}
 use Rattle.units.specs.declared.fault.Fault.{Fault}
 use Rattle.units.specs.declared.fault.Fault.TheVariants.{Argument}
@@ -22,6 +23,12 @@ abbrev pub plane_name : Plane → List ℕ
 plane_name Xy = codes "G17"
 plane_name Zx = codes "G18"
 plane_name Yz = codes "G19"
+
+-- a point's coordinate on an axis
+abbrev pub at : Point → Axis → ℤ
+at p X = p.x
+at p Y = p.y
+at p Z = p.z
 
 -- the value of an axis
 abbrev pub on_axis : {T : Type 0} → ByAxis T → Axis → T

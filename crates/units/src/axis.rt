@@ -5,6 +5,8 @@ ghost use Rattle.units.specs.Axes.{axis_number, axis_of, plane_name, on_axis};
 use crate::fault::Fault;
 use std::fmt;
 
+pub mod on;
+
 /// X, Y and Z are axes 1, 2 and 3.
 #[derive(Clone, Copy, PartialEq, Eq, Debug)]
 pub enum Axis {
@@ -71,7 +73,7 @@ pub enum Side {
 }
 
 /// Three coordinates in units of 10 nm.
-// A type of its own, so that no count or increment stands for a coordinate.
+// Not a `ByAxis<i64>`, which the counts of three motors are: no count stands for a coordinate.
 #[derive(Clone, Copy, PartialEq, Eq, Debug, Default)]
 pub struct Point {
     pub x: i64,

@@ -72,6 +72,7 @@ impl fmt::Display for Layer {
 }
 
 /// What is told of a fault; a value that its case does not use is 0.
+// Not options: a decline is written, and counted, as the same six values whatever its case.
 #[derive(Clone, Copy, PartialEq, Eq, Debug)]
 pub struct Decline {
     pub number: u8,

@@ -1,4 +1,5 @@
 // Numbers whose range is part of their type.
+// Each unit has a type and a maker of its own, not one generic by its limits: so no tolerance stands for a length.
 ghost use Rattle.std.specs.Prelude.{ℕ, ◌<◌, ◌≤◌, ℤ, unsigned_abs};
 
 pub mod make;

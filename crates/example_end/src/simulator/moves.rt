@@ -7,10 +7,9 @@ ghost use Rattle.std.proofs.lemmas.Int.{ints};
 ghost use Rattle.machine.specs.RangesLemmas.{limit_fits, on_axis_lem};
 
 use crate::simulator::Simulator;
-use machine::axes::{axis_of, coordinate};
 use machine::bounds::Bounds;
 use machine::end::MachineEnd;
-use units::axis::{Point, Side};
+use units::axis::{Axis, Point, Side};
 use units::fault::Fault;
 
 impl Simulator {
@@ -56,17 +55,15 @@ impl MachineEnd for Simulator {
         if level > 0 {
             return Err(Fault::Argument);
         }
-        let a = axis_of(axis)?;
-        Ok(coordinate(self.bounds.limits_of(side), a))
+        self.bounds.limit(axis, side)
     }
 
     fn increment(&self, axis: u8) -> Result<u32, Fault> {
-        let _ = axis_of(axis)?;
+        Axis::try_from(axis)?;
         Ok(1)
     }
 
     fn held(&self, axis: u8) -> Result<i64, Fault> {
-        let a = axis_of(axis)?;
-        Ok(coordinate(self.position, a))
+        Ok(self.position.on(Axis::try_from(axis)?))
     }
 }

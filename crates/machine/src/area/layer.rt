@@ -4,7 +4,6 @@ ghost use Rattle.std.proofs.Common.{arith};
 ghost use Rattle.machine.specs.RangesLemmas.{limit_fits};
 
 use crate::area::WorkArea;
-use crate::axes::{axis_of, coordinate};
 use crate::end::MachineEnd;
 use crate::joined::on_top;
 use units::axis::{Point, Side};
@@ -44,8 +43,7 @@ impl<E: MachineEnd> MachineEnd for WorkArea<E> {
         if level > 0 {
             return self.below.limit(level - 1, axis, side);
         }
-        let a = axis_of(axis)?;
-        Ok(coordinate(self.own.limits_of(side), a))
+        self.own.limit(axis, side)
     }
 
     fn increment(&self, axis: u8) -> Result<u32, Fault> {

@@ -1,11 +1,11 @@
 // Making a box, and what it says to a move.
-ghost use Rattle.std.specs.Prelude.{◌≡◌, ℕ, ◌&&◌, [], ◌∷◌, nat_le, unsigned_abs};
+ghost use Rattle.std.specs.Prelude.{◌≡◌, ℕ, ◌&&◌, [], ◌∷◌, nat_le, unsigned_abs, Ok};
+ghost use Rattle.units.specs.Axes.{axis_of};
 ghost use Rattle.machine.specs.Made.{MadeWhere};
 ghost use Rattle.machine.specs.Ranges.{within};
 ghost use Rattle.machine.specs.Meaning.{limits};
-ghost use Rattle.machine.specs.Replies.{beyond, reply};
+ghost use Rattle.machine.specs.Replies.{beyond, reply, limit_of};
 
-use crate::axes::coordinate;
 use crate::bounds::Bounds;
 use units::axis::{Axis, Point, Side};
 use units::fault::Fault;
@@ -49,10 +49,17 @@ impl Bounds {
         }
     }
 
+    /// The limit on the axis of that number; `Fault::Argument` where there is none.
+    pub fn limit(&self, axis: u8, side: Side) -> Result<i64, Fault>
+        ensures { result ≡ limit_of (Ok self.now) (axis_of axis) side }
+    {
+        Ok(self.limits_of(side).on(Axis::try_from(axis)?))
+    }
+
     fn excludes(&self, axis: Axis, v: i64) -> bool
         ensures { result ≡ beyond self.now axis v }
     {
-        v < coordinate(self.lower, axis) || coordinate(self.upper, axis) < v
+        v < self.lower.on(axis) || self.upper.on(axis) < v
     }
 
     /// What a move gets from this box alone.

@@ -6,14 +6,13 @@ ghost use Rattle.std.proofs.Common.{arith};
 ghost use Rattle.machine.specs.RangesLemmas.{increment_least, increment_most, limit_fits, on_axis_lem};
 ghost use Rattle.machine.specs.Counts.{length_fits, count_near};
 
-use crate::axes::{axis_of, coordinate};
 use crate::bounds::Bounds;
 use crate::count::CountEnd;
-use crate::count::rounding::{count_on, lower_counts, standing};
+use crate::count::rounding::{lower_counts, standing};
 use crate::end::MachineEnd;
-use crate::increment::{fair_increments, length_on};
+use crate::increment::fair_increments;
 use crate::motors::{Counts, Increments};
-use units::axis::{Point, Side};
+use units::axis::{Axis, Point, Side};
 use units::fault::Fault;
 
 impl CountEnd {
@@ -65,17 +64,15 @@ impl MachineEnd for CountEnd {
         if level > 0 {
             return Err(Fault::Argument);
         }
-        let a = axis_of(axis)?;
-        Ok(coordinate(self.bounds.limits_of(side), a))
+        self.bounds.limit(axis, side)
     }
 
     fn increment(&self, axis: u8) -> Result<u32, Fault> {
-        let a = axis_of(axis)?;
-        Ok(length_on(self.increments, a))
+        Ok(self.increments.on(Axis::try_from(axis)?))
     }
 
     fn held(&self, axis: u8) -> Result<i64, Fault> {
-        let a = axis_of(axis)?;
-        Ok(standing(length_on(self.increments, a), count_on(self.counts, a)))
+        let a = Axis::try_from(axis)?;
+        Ok(standing(self.increments.on(a), self.counts.on(a)))
     }
 }

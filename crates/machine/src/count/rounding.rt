@@ -1,10 +1,10 @@
 // Coordinates to counts and back.
 ghost use Rattle.std.specs.Prelude.{◌≡◌, ℕ, ◌≤◌, true, ℤ, unsigned_abs};
 ghost use Rattle.machine.specs.Ranges.{within, increment_fits};
-ghost use Rattle.machine.specs.Count.{increments_fit, tie_down, lower_count, lower_counts, count_on, standing as standing_of, standing_at};
+ghost use Rattle.machine.specs.Count.{increments_fit, tie_down, lower_count, lower_counts, standing as standing_of, standing_at};
 
 use crate::motors::{Counts, Increments};
-use units::axis::{Axis, Point};
+use units::axis::Point;
 use units::division::div_nearest;
 use units::quantity::{Dividend, Divisor};
 
@@ -40,16 +40,6 @@ pub(crate) fn lower_counts(increments: Increments, to: Point) -> Counts
         x: lower_count(increments.x, to.x),
         y: lower_count(increments.y, to.y),
         z: lower_count(increments.z, to.z),
-    }
-}
-
-pub(crate) fn count_on(counts: Counts, axis: Axis) -> i64
-    ensures { result ≡ count_on counts axis }
-{
-    match axis {
-        Axis::X => counts.x,
-        Axis::Y => counts.y,
-        Axis::Z => counts.z,
     }
 }
 

@@ -8,12 +8,11 @@ ghost use Rattle.std.proofs.Common.{arith};
 ghost use Rattle.machine.specs.RangesLemmas.{increment_least, increment_most, limit_fits, on_axis_lem};
 ghost use Rattle.machine.specs.Nearness.{multiple_near};
 
-use crate::axes::{axis_of, coordinate};
 use crate::bounds::Bounds;
 use crate::end::MachineEnd;
 use crate::increment::fair_increment;
 use crate::scale::ScaleEnd;
-use units::axis::{Point, Side};
+use units::axis::{Axis, Point, Side};
 use units::division::div_nearest;
 use units::fault::Fault;
 use units::quantity::{Dividend, Divisor};
@@ -87,17 +86,15 @@ impl MachineEnd for ScaleEnd {
         if level > 0 {
             return Err(Fault::Argument);
         }
-        let a = axis_of(axis)?;
-        Ok(coordinate(self.bounds.limits_of(side), a))
+        self.bounds.limit(axis, side)
     }
 
     fn increment(&self, axis: u8) -> Result<u32, Fault> {
-        let _ = axis_of(axis)?;
+        Axis::try_from(axis)?;
         Ok(self.increment)
     }
 
     fn held(&self, axis: u8) -> Result<i64, Fault> {
-        let a = axis_of(axis)?;
-        Ok(coordinate(self.position, a))
+        Ok(self.position.on(Axis::try_from(axis)?))
     }
 }

@@ -31,10 +31,7 @@ impl Factor {
     pub fn new(parts: u32) -> Option<Factor>
         ensures { result ≡ factor_of parts }
     {
-        if parts < 1 {
-            return None;
-        }
-        if parts > Factor::MOST {
+        if !(1..=Factor::MOST).contains(&parts) {
             return None;
         }
         Some(Factor { parts })

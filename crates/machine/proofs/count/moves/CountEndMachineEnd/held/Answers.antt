@@ -4,6 +4,6 @@ use Rattle.machine.proofs.count.moves.CountEndMachineEnd.held.Goals as goal
 
 pub standing-requires : goal.standing-requires
 standing-requires c =
-    let f : SFits w64 c.count_on.result = search rules in
+    let f : SFits w64 c.on-2.result = search rules in
     let me = c.args.self.now in
-    standing_fits me.increments me.counts me.placed c.in_ok-a.a _ _ f c.length_on.ensures c.count_on.ensures
+    standing_fits me.increments me.counts me.placed c.in_ok-a.a _ _ f c.on.ensures c.on-2.ensures
