@@ -1,5 +1,5 @@
 -- What a number's reading keeps, and what makes a byte the first wrong one.
-use Rattle.std.proofs.Common.{◌≡◌, ℕ, zero, suc, ◌+◌, ◌-◌, ◌*◌, ◌^◌, ◌<◌, ◌≤◌, Bool, true, false, cond, ◌||◌, eqb, ◌⊎◌, List, [], ◌∷◌, ◌++◌, length, get_or, take, drop, ℤ, pos, count_by, sym, refl, ap, ◌∙◌, subst, ⊎_elim, append-nil, pow-suc, add-one, arith}
+use Rattle.std.proofs.Common.{◌≡◌, ℕ, zero, suc, ◌+◌, ◌-◌, ◌*◌, ◌^◌, ◌<◌, ◌≤◌, Bool, true, false, cond, ◌||◌, eqb, ◌⊎◌, List, [], ◌∷◌, ◌++◌, length, get_or, take, drop, ℤ, pos, Ok, Err, Result, MatchResult, count_by, sym, refl, ap, ◌∙◌, subst, ⊎_elim, append-nil, pow-suc, add-one, arith}
 use native.Mathlib.Nat.{pow-le-pow_right}
 use Rattle.std.proofs.lemmas.Slice.{first_rest}
 use Rattle.std.specs.Str.Parse.{digits_value}
@@ -12,6 +12,7 @@ use Rattle.std.proofs.lemmas.List.Sums.{sum_by-cons, sum_by-append, sum_by_push}
 use Rattle.std.proofs.lemmas.Int.Digits.{digits_value_push}
 use Rattle.std.proofs.lemmas.Bool.{cases_Bool, cases_lt, cases_eq, both_ways, or_from, or_parts, or_left, or_right}
 use Rattle.std.proofs.lemmas.Bool.Decides.{nat_tests}
+use Rattle.reader.specs.declared.types.Number.{Number}
 use Rattle.reader.specs.Shapes.{is_point, is_sign, digits, after_point, decimals, IsMagnitude, IsNumber, IsCode, IsTurn, Begins, FirstWrong, unsigned, negative, signed_by, valued}
 
 all_left : {X : Type 0} (P : X → Type 0) (xs ys : List X) → AllByRecursion P (xs ++ ys) → AllByRecursion P xs
@@ -270,15 +271,14 @@ lift b t y (u, h) = (u, subst (λ z. IsMagnitude (cond z (t ++ u) (b ∷ (t ++ u
 lower : (b : ℕ) (t : List ℕ) → is_sign b ≡ true → Begins IsNumber (b ∷ t) → Begins IsMagnitude t
 lower b t y (u, h) = (u, subst (λ z. IsMagnitude (cond z (t ++ u) (b ∷ (t ++ u)))) y h)
 
-pub signed_wrong : (s r : List ℕ) (b i : ℕ) → s ≡ b ∷ r → is_sign b ≡ true → FirstWrong IsMagnitude r i → FirstWrong IsNumber s (i + 1)
-signed_wrong s r b i e y h =
-    subst (λ s. FirstWrong IsNumber s (i + 1)) (sym e)
-    (record {
+signed_wrong : (r : List ℕ) (b i : ℕ) → is_sign b ≡ true → FirstWrong IsMagnitude r i → FirstWrong IsNumber (b ∷ r) (i + 1)
+signed_wrong r b i y h =
+    record {
       within = omega (arith, h.within);
       begun = subst (λ k. Begins IsNumber (take k (b ∷ r))) (sym (add-one i)) (lift b (take i r) y h.begun);
       wrong = λ l g. h.wrong (omega arith) (lower b (take (i + 1) r) y (subst (λ k. Begins IsNumber (take k (b ∷ r))) (add-one (i + 1)) g));
       short = λ l x. h.short (omega arith) (subst (λ z. IsMagnitude (cond z r (b ∷ r))) y x);
-    })
+    }
 
 plain_lift : (b : ℕ) (t : List ℕ) → is_sign b ≡ false → Begins IsMagnitude (b ∷ t) → Begins IsNumber (b ∷ t)
 plain_lift b t n (u, h) = (u, subst (λ z. IsMagnitude (cond z (t ++ u) (b ∷ (t ++ u)))) (sym n) h)
@@ -286,54 +286,51 @@ plain_lift b t n (u, h) = (u, subst (λ z. IsMagnitude (cond z (t ++ u) (b ∷ (
 plain_lower : (b : ℕ) (t : List ℕ) → is_sign b ≡ false → Begins IsNumber (b ∷ t) → Begins IsMagnitude (b ∷ t)
 plain_lower b t n (u, h) = (u, subst (λ z. IsMagnitude (cond z (t ++ u) (b ∷ (t ++ u)))) n h)
 
-pub plain_is : (s : List ℕ) → is_sign (get_or s 0 0) ≡ false → unsigned s ≡ s
-plain_is [] n = refl
-plain_is (b ∷ s) n = ap (λ z. cond z s (b ∷ s)) n
-
-pub plain_wrong : (s : List ℕ) (i : ℕ) → is_sign (get_or s 0 0) ≡ false → FirstWrong IsMagnitude s i → FirstWrong IsNumber s i
-plain_wrong [] i n h = record { within = h.within; begun = subst (Begins IsNumber) (sym (take_all i [] (omega arith))) (48 ∷ [], zero_begins_at); wrong = λ l _. omega arith; short = h.short }
-plain_wrong (b ∷ s) zero n h = record { within = h.within; begun = (48 ∷ [], zero_begins_at); wrong = λ l g. h.wrong l (plain_lower b [] n g); short = λ e x. omega arith }
-plain_wrong (b ∷ s) (suc i) n h = record {
+plain_wrong : (b : ℕ) (s : List ℕ) (i : ℕ) → is_sign b ≡ false → FirstWrong IsMagnitude (b ∷ s) i → FirstWrong IsNumber (b ∷ s) i
+plain_wrong b s zero n h = record { within = h.within; begun = (48 ∷ [], zero_begins_at); wrong = λ l g. h.wrong l (plain_lower b [] n g); short = λ e x. omega arith }
+plain_wrong b s (suc i) n h = record {
   within = h.within;
   begun = plain_lift b (take i s) n h.begun;
   wrong = λ l g. h.wrong l (subst (λ k. Begins IsMagnitude (take k (b ∷ s))) (sym (add-one (suc i))) (plain_lower b (take (suc i) s) n (subst (λ k. Begins IsNumber (take k (b ∷ s))) (add-one (suc i)) g)));
-  short = λ e x. h.short e (subst IsMagnitude (plain_is (b ∷ s) n) x);
+  short = λ e x. h.short e (subst (λ z. IsMagnitude (cond z s (b ∷ s))) n x);
 }
 
-pub signed_ok : (s r : List ℕ) (b n d : ℕ) (z : ℤ) → s ≡ b ∷ r → is_sign b ≡ true → z ≡ signed_by (eqb b 45) n → IsMagnitude r → n ≡ digits_value 10 (digits r) → d ≡ decimals r → IsNumber s × (z ≡ valued s) × (d ≡ decimals (unsigned s))
-signed_ok s r b n d z e y w m v f =
-    subst (λ s. IsNumber s × (z ≡ valued s) × (d ≡ decimals (unsigned s))) (sym e)
-    (subst (λ q. IsMagnitude (cond q r (b ∷ r)) × (z ≡ signed_by (eqb b 45) (digits_value 10 (digits (cond q r (b ∷ r))))) × (d ≡ decimals (cond q r (b ∷ r)))) (sym y) (m, w ∙ ap (signed_by (eqb b 45)) v, f))
+-- a wrong byte of what follows the sign, as a place of the whole text
+number_wrong : (s : List ℕ) (i j : ℕ) → j ≡ i + (length s - length (unsigned s)) → FirstWrong IsMagnitude (unsigned s) i → FirstWrong IsNumber s j
+number_wrong [] i j e h = record { within = omega (arith, h.within); begun = subst (Begins IsNumber) (sym (take_all j [] (omega arith))) (48 ∷ [], zero_begins_at); wrong = λ l _. omega arith; short = λ _ x. h.short (omega (arith, h.within)) x }
+number_wrong (b ∷ s) i j e h =
+    ⊎_elim
+    (λ y. let one : length (unsigned (b ∷ s)) ≡ length s = ap (λ z. length (cond z s (b ∷ s))) y in let at : i + 1 ≡ j = omega arith in subst (FirstWrong IsNumber (b ∷ s)) at (signed_wrong s b i y (subst (λ z. FirstWrong IsMagnitude (cond z s (b ∷ s)) i) y h)))
+    (λ n. let none : length (unsigned (b ∷ s)) ≡ suc (length s) = ap (λ z. length (cond z s (b ∷ s))) n in let at : i ≡ j = omega arith in subst (FirstWrong IsNumber (b ∷ s)) at (plain_wrong b s i n (subst (λ z. FirstWrong IsMagnitude (cond z s (b ∷ s)) i) n h)))
+    (cases_Bool (is_sign b))
 
-not_minus : (s : List ℕ) → is_sign (get_or s 0 0) ≡ false → negative s ≡ false
-not_minus [] n = refl
-not_minus (b ∷ s) n = (or_parts _ _ n).1
-
-pub plain_ok : (s : List ℕ) (n d : ℕ) (z : ℤ) → is_sign (get_or s 0 0) ≡ false → z ≡ pos n → IsMagnitude s → n ≡ digits_value 10 (digits s) → d ≡ decimals s → IsNumber s × (z ≡ valued s) × (d ≡ decimals (unsigned s))
-plain_ok s n d z y w m v f =
-    let e = plain_is s y in
-    (subst IsMagnitude (sym e) m, w ∙ ap pos v ∙ ap (λ l. pos (digits_value 10 (digits l))) (sym e) ∙ ap (λ q. signed_by q (digits_value 10 (digits (unsigned s)))) (sym (not_minus s y)), f ∙ ap decimals (sym e))
-
-pub no_sign : (b : ℕ) → (b ≡ 45 → ⊥) → (b ≡ 43 → ⊥) → is_sign b ≡ false
-no_sign b m p = grind (arith, nat_tests)
+-- the same of a reading x of what follows the sign, and y with its place moved
+pub number_err : {T : Type 0} (P : T → Type 0) (s t : List ℕ) (x y : Result T ℕ) (j : ℕ) → t ≡ unsigned s → MatchResult x P (FirstWrong IsMagnitude t) → MatchResult x (λ v. y ≡ Ok v) (λ i. y ≡ Err (i + (length s - length t))) → y ≡ Err j → FirstWrong IsNumber s j
+number_err P s t (Ok v) y j w h r e = absurd (cc)
+number_err P s t (Err i) y j w h r e = number_wrong s i j (cc) (subst (λ t. FirstWrong IsMagnitude t i) w h)
 
 pub head_rest : (s : List ℕ) (b : ℕ) → 1 ≤ length s → get_or s 0 0 ≡ b → s ≡ b ∷ take (length s - 1) (drop 1 s)
 head_rest s b l e = first_rest s 0 l ∙ ap (λ x. x ∷ take (length s - 1) (drop 1 s)) e
 
 -- `=` and a number
 
-pub turn_ok : (s r : List ℕ) (z : ℤ) (d : ℕ) → s ≡ 61 ∷ r → IsNumber r → z ≡ valued r → d ≡ decimals (unsigned r) → IsTurn s × (z ≡ valued (drop 1 s)) × (d ≡ decimals (unsigned (drop 1 s)))
-turn_ok s r z d e m v f = subst (λ s. IsTurn s × (z ≡ valued (drop 1 s)) × (d ≡ decimals (unsigned (drop 1 s)))) (sym e) ((refl, m), v, f)
-
-pub turn_wrong : (s r : List ℕ) (i : ℕ) → s ≡ 61 ∷ r → FirstWrong IsNumber r i → FirstWrong IsTurn s (i + 1)
-turn_wrong s r i e h =
-    subst (λ s. FirstWrong IsTurn s (i + 1)) (sym e)
-    (record {
+turn_wrong : (t : List ℕ) (i : ℕ) → FirstWrong IsNumber t i → FirstWrong IsTurn (61 ∷ t) (i + 1)
+turn_wrong t i h =
+    record {
       within = omega (arith, h.within);
-      begun = subst (λ k. Begins IsTurn (take k (61 ∷ r))) (sym (add-one i)) (h.begun.0, (refl, h.begun.1));
-      wrong = λ l g. let g2 = subst (λ k. Begins IsTurn (take k (61 ∷ r))) (add-one (i + 1)) g in h.wrong (omega arith) (g2.0, g2.1.1);
+      begun = subst (λ k. Begins IsTurn (take k (61 ∷ t))) (sym (add-one i)) (h.begun.0, (refl, h.begun.1));
+      wrong = λ l g. let g2 = subst (λ k. Begins IsTurn (take k (61 ∷ t))) (add-one (i + 1)) g in h.wrong (omega arith) (g2.0, g2.1.1);
       short = λ l x. h.short (omega arith) x.1;
-    })
+    }
+
+-- a reading x of what follows the `=`, and y with its place moved
+pub turned : (s t : List ℕ) (x y : Result Number ℕ) → s ≡ 61 ∷ t → MatchResult x (λ n. IsNumber t × (n.value ≡ valued t) × (n.decimals ≡ decimals (unsigned t))) (FirstWrong IsNumber t) → MatchResult x (λ n. y ≡ Ok n) (λ i. y ≡ Err (i + 1)) → MatchResult y (λ n. IsTurn s × (n.value ≡ valued (drop 1 s)) × (n.decimals ≡ decimals (unsigned (drop 1 s)))) (FirstWrong IsTurn s)
+turned s t (Ok n) y e h r =
+    subst (λ z. MatchResult z (λ n. IsTurn s × (n.value ≡ valued (drop 1 s)) × (n.decimals ≡ decimals (unsigned (drop 1 s)))) (FirstWrong IsTurn s)) (sym r)
+    (subst (λ s. IsTurn s × (n.value ≡ valued (drop 1 s)) × (n.decimals ≡ decimals (unsigned (drop 1 s)))) (sym e) ((refl, h.0), h.1, h.2))
+turned s t (Err i) y e h r =
+    subst (λ z. MatchResult z (λ n. IsTurn s × (n.value ≡ valued (drop 1 s)) × (n.decimals ≡ decimals (unsigned (drop 1 s)))) (FirstWrong IsTurn s)) (sym r)
+    (subst (λ s. FirstWrong IsTurn s (i + 1)) (sym e) (turn_wrong t i h))
 
 pub turn_none : (s : List ℕ) → (get_or s 0 0 ≡ 61 → ⊥) → FirstWrong IsTurn s 0
 turn_none [] n = record { within = omega arith; begun = (61 ∷ 48 ∷ [], (refl, zero_begins_at)); wrong = λ l _. omega arith; short = λ _ x. x }

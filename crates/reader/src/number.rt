@@ -1,7 +1,7 @@
 // Numbers as words write them.
 ghost use Rattle.std.specs.Prelude.{◌≡◌, ◌^◌, ◌<◌, drop, MatchResult};
 ghost use Rattle.std.specs.Str.Parse.{digits_value as value_of};
-ghost use Rattle.reader.specs.Shapes.{IsMagnitude, IsNumber, IsCode, IsTurn, FirstWrong, digits as digits_of, decimals as decimals_of, unsigned, valued};
+ghost use Rattle.reader.specs.Shapes.{IsMagnitude, IsNumber, IsCode, IsTurn, FirstWrong, digits as digits_of, decimals as decimals_of, unsigned, negative, valued};
 
 use crate::types::Number;
 
@@ -51,33 +51,30 @@ fn read_magnitude(s: &[u8]) -> Result<Magnitude, usize>
     Ok(Magnitude { value, decimals })
 }
 
+// Whether a text has a minus, and what follows its sign.
+fn split_sign(s: &[u8]) -> (bool, &[u8])
+    ensures sign { result.0 ≡ negative s.now }
+    ensures rest { result.1.now ≡ unsigned s.now }
+{
+    match s {
+        [b'-', rest @ ..] => (true, rest),
+        [b'+', rest @ ..] => (false, rest),
+        _ => (false, s),
+    }
+}
+
 /// An optional sign, and a magnitude; else the place of the first wrong byte.
 pub fn read_number(s: &[u8]) -> Result<Number, usize>
     ensures { MatchResult result (λ m. IsNumber s.now × (m.value ≡ valued s.now) × (m.decimals ≡ decimals_of (unsigned s.now))) (FirstWrong IsNumber s.now) }
 {
-    match s {
-        [b'-', rest @ ..] => match read_magnitude(rest) {
-            Ok(m) => Ok(Number {
-                value: -(m.value as i64),
-                decimals: m.decimals,
-            }),
-            Err(i) => Err(i + 1),
-        },
-        [b'+', rest @ ..] => match read_magnitude(rest) {
-            Ok(m) => Ok(Number {
-                value: m.value as i64,
-                decimals: m.decimals,
-            }),
-            Err(i) => Err(i + 1),
-        },
-        _ => match read_magnitude(s) {
-            Ok(m) => Ok(Number {
-                value: m.value as i64,
-                decimals: m.decimals,
-            }),
-            Err(i) => Err(i),
-        },
-    }
+    let (minus, digits) = split_sign(s);
+    let signs = s.len() - digits.len();
+    let m = read_magnitude(digits).map_err(|i| i + signs)?;
+    let value = m.value as i64;
+    Ok(Number {
+        value: if minus { -value } else { value },
+        decimals: m.decimals,
+    })
 }
 
 /// `=` and a number; else the place of the first wrong byte.
@@ -85,10 +82,7 @@ pub fn read_turn(s: &[u8]) -> Result<Number, usize>
     ensures { MatchResult result (λ m. IsTurn s.now × (m.value ≡ valued (drop 1 s.now)) × (m.decimals ≡ decimals_of (unsigned (drop 1 s.now)))) (FirstWrong IsTurn s.now) }
 {
     match s {
-        [b'=', rest @ ..] => match read_number(rest) {
-            Ok(n) => Ok(n),
-            Err(i) => Err(i + 1),
-        },
+        [b'=', rest @ ..] => read_number(rest).map_err(|i| i + 1),
         _ => Err(0),
     }
 }
