@@ -65,9 +65,6 @@ unfolding cut_term
 cut_next x zero t h e = absurd (omega arith)
 cut_next x (suc n) t h e = let p : suc n - 1 ≡ n = omega arith in ap (λ (z : ℕ). z * x / (suc n * 10 ^ 18)) (e ∙ ap (cut_term x) p)
 
-pub next_less : (x k t : ℕ) → 1 ≤ k → x < 10 ^ 18 → t * x / (k * 10 ^ 18) ≤ t
-next_less x k t h l = falls t (t * x / (k * 10 ^ 18)) x k (10 ^ 18) (cut (t * x) (k * 10 ^ 18) (omega arith)).0 (omega arith) h (omega arith)
-
 start : (W t : ℕ) → t ≡ W → (10 ^ 18 * W ≤ 10 ^ 18 * t) × (10 ^ 18 * t ≤ (10 ^ 18 + 3) * W)
 start W t e = omega arith
 

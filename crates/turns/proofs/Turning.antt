@@ -50,17 +50,17 @@ octant_exact a c s t e =
     subst (λ (z : ℕ). Exactly (cosine z) (sine z) (pos c) (pos s)) (sym e)
     (subst₂ (λ (x y : ℕ). Exactly (cosine 0) (sine 0) (pos x) (pos y)) (sym (t.none e).0) (sym (t.none e).1) (record { cosine_is = refl; sine_is = refl }))
 
--- the numbers as they are defined
-module _ (c s c1 s1 : ℤ) (e1 : c1 ≡ neg_ℤ s) (f1 : s1 ≡ c) where
-  pub once_on : (c1 ≡ quarters_cosine 1 c s) × (s1 ≡ quarters_sine 1 c s)
-  once_on = (e1, f1)
+-- so many quarters further, c and s are the numbers of a
+pub record Towards (a n : ℕ) (c s : ℤ) : Type 0 where
+  pub cosine : quarters_cosine n c s ≡ turn_c a
+  pub sine : quarters_sine n c s ≡ turn_s a
 
-  pub twice_on : (c2 s2 : ℤ) → c2 ≡ neg_ℤ s1 → s2 ≡ c1 → (c2 ≡ quarters_cosine 2 c s) × (s2 ≡ quarters_sine 2 c s)
-  twice_on c2 s2 e2 f2 = (e2 ∙ ap neg_ℤ f1, f2 ∙ e1)
-
-  pub thrice_on : (c2 s2 c3 s3 : ℤ) → c2 ≡ neg_ℤ s1 → s2 ≡ c1 → c3 ≡ neg_ℤ s2 → s3 ≡ c2 → (c3 ≡ quarters_cosine 3 c s) × (s3 ≡ quarters_sine 3 c s)
-  thrice_on c2 s2 c3 s3 e2 f2 e3 f3 = (e3 ∙ ap neg_ℤ (f2 ∙ e1), f3 ∙ e2 ∙ ap neg_ℤ f1)
-
-pub number_is : (a q : ℕ) (c s c' s' : ℤ) → a / 900000 ≡ q → c' ≡ quarters_cosine q c s → s' ≡ quarters_sine q c s → c ≡ quarter_c (a % 900000) → s ≡ quarter_s (a % 900000) → (c' ≡ turn_c a) × (s' ≡ turn_s a)
+pub begun : (a n : ℕ) (c s : ℤ) → n ≡ a / 900000 → c ≡ quarter_c (a % 900000) → s ≡ quarter_s (a % 900000) → Towards a n c s
 unfolding turn_c turn_s
-number_is a q c s c' s' e ec es eC eS = (cc, cc)
+begun a n c s e ec es = rw (e, ec, es) (record { cosine = refl; sine = refl })
+
+pub further : (a m n : ℕ) (c s c' s' : ℤ) → m ≡ suc n → c' ≡ neg_ℤ s → s' ≡ c → Towards a m c s → Towards a n c' s'
+further a m n c s c' s' e ec es t = rw (ec, es) (record { cosine = ap (λ (k : ℕ). quarters_cosine k c s) (sym e) ∙ t.cosine; sine = ap (λ (k : ℕ). quarters_sine k c s) (sym e) ∙ t.sine })
+
+pub arrived : (a n : ℕ) (c s : ℤ) → n ≡ 0 → Towards a n c s → (c ≡ turn_c a) × (s ≡ turn_s a)
+arrived a n c s e t = (ap (λ (k : ℕ). quarters_cosine k c s) (sym e) ∙ t.cosine, ap (λ (k : ℕ). quarters_sine k c s) (sym e) ∙ t.sine)

@@ -13,16 +13,12 @@ fn quarter_numbers(ticks: u32) -> TurnNumbers
     ensures { (result.cosine ≡ quarter_c ticks) × (result.sine ≡ quarter_s ticks) }
 {
     if ticks <= 450_000 {
-        let (c, s) = octant_numbers(ticks);
-        TurnNumbers {
-            cosine: c as i64,
-            sine: s as i64,
-        }
+        octant_numbers(ticks)
     } else {
-        let (c, s) = octant_numbers(900_000 - ticks);
+        let mirrored = octant_numbers(900_000 - ticks);
         TurnNumbers {
-            cosine: s as i64,
-            sine: c as i64,
+            cosine: mirrored.sine,
+            sine: mirrored.cosine,
         }
     }
 }
@@ -42,18 +38,14 @@ pub fn turn_numbers(angle: Angle) -> TurnNumbers
     ensures law { TurnLaw angle.ticks result.cosine result.sine }
     ensures equal { (result.cosine ≡ turn_c angle.ticks) × (result.sine ≡ turn_s angle.ticks) }
 {
-    let n = quarter_numbers(angle.ticks % 900_000);
-    match angle.ticks / 900_000 {
-        0 => return n,
-        1 => return quarter_on(n),
-        2 => return quarter_on(quarter_on(n)),
-        _ => return quarter_on(quarter_on(quarter_on(n))),
+    let mut numbers = quarter_numbers(angle.ticks % 900_000);
+    for _ in 0..angle.ticks / 900_000 {
+        numbers = quarter_on(numbers);
     }
+    numbers
 }
 
 /// The law of the definitions, for every number of ticks.
-pub fn turn_law_stands() -> u8
+pub fn turn_law_stands()
     ensures { Law }
-{
-    0
-}
+{}
