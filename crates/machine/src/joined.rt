@@ -13,7 +13,7 @@ fn deepened(fault: Fault) -> Fault
         Fault::Outside { place, axis, level } => Fault::Outside {
             place,
             axis,
-            level: if level < 255 { level + 1 } else { 255 },
+            level: level.saturating_add(1),
         },
         other => other,
     }
@@ -28,21 +28,10 @@ fn is_lower(one: Fault, other: Fault) -> bool
 fn join(top: Result<(), Fault>, below: Result<(), Fault>) -> Result<(), Fault>
     ensures { result ≡ joined top below }
 {
-    match top {
-        Ok(()) => match below {
-            Ok(()) => Ok(()),
-            Err(e) => Err(deepened(e)),
-        },
-        Err(d) => match below {
-            Ok(()) => Err(d),
-            Err(e) => {
-                if is_lower(e, d) {
-                    Err(deepened(e))
-                } else {
-                    Err(d)
-                }
-            }
-        },
+    match (top, below) {
+        (Ok(()), _) => below.map_err(deepened),
+        (Err(d), Err(e)) if is_lower(e, d) => Err(deepened(e)),
+        (Err(_), _) => top,
     }
 }
 

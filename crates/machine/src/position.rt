@@ -9,10 +9,7 @@ use units::axis::{Axis, Point};
 fn held_on<E: MachineEnd>(end: &E, axis: Axis) -> i64
     ensures { result ≡ at (E.meaning end.now).held axis }
 {
-    match end.held(axis.number()) {
-        Ok(v) => v,
-        Err(_) => 0,
-    }
+    end.held(axis.number()).unwrap()
 }
 
 /// The position that an end holds.

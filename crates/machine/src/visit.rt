@@ -17,15 +17,16 @@ pub struct Visit {
 pub fn visit_all<E: MachineEnd>(end: &mut E, points: &[Point]) -> Visit
     ensures { Visited (E.meaning end.old) points.now result (E.meaning end.new) }
 {
-    let mut taken = 0;
-    while taken < points.len() {
-        match end.take_move(points[taken]) {
-            Ok(()) => taken += 1,
-            Err(fault) => return Visit {
+    for (taken, to) in points.iter().enumerate() {
+        if let Err(fault) = end.take_move(*to) {
+            return Visit {
                 taken,
                 end: Err(fault),
-            },
+            };
         }
     }
-    Visit { taken, end: Ok(()) }
+    Visit {
+        taken: points.len(),
+        end: Ok(()),
+    }
 }

@@ -35,15 +35,15 @@ impl<E: MachineEnd> MachineEnd for WorkArea<E> {
     }
 
     fn box_count(&self) -> u8 {
-        let n = self.below.box_count();
-        if n < 255 { n + 1 } else { 255 }
+        self.below.box_count().saturating_add(1)
     }
 
     fn limit(&self, level: usize, axis: u8, side: Side) -> Result<i64, Fault> {
         if level > 0 {
-            return self.below.limit(level - 1, axis, side);
+            self.below.limit(level - 1, axis, side)
+        } else {
+            self.own.limit(0, axis, side)
         }
-        self.own.limit(axis, side)
     }
 
     fn increment(&self, axis: u8) -> Result<u32, Fault> {

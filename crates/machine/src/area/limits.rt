@@ -10,10 +10,7 @@ use units::quantity::Length;
 fn written(value: Option<Length>, old: i64) -> i64
     ensures { result ≡ written_limit value old }
 {
-    match value {
-        Some(length) => length.units,
-        None => old,
-    }
+    value.map_or(old, |length| length.units)
 }
 
 fn written_over(values: [Option<Length>; 3], old: Point) -> Point
@@ -23,21 +20,6 @@ fn written_over(values: [Option<Length>; 3], old: Point) -> Point
         x: written(values[0], old.x),
         y: written(values[1], old.y),
         z: written(values[2], old.z),
-    }
-}
-
-fn rewritten(own: Bounds, side: Side, values: [Option<Length>; 3]) -> Bounds
-    ensures { result ≡ rewritten_limits side values own }
-{
-    match side {
-        Side::Lower => return Bounds {
-            lower: written_over(values, own.lower),
-            upper: own.upper,
-        },
-        Side::Upper => return Bounds {
-            lower: own.lower,
-            upper: written_over(values, own.upper),
-        },
     }
 }
 
@@ -55,7 +37,10 @@ impl<E> WorkArea<E> {
         ensures own { self.new.own ≡ rewritten_limits side values self.old.own }
         ensures below { self.new.below ≡ self.old.below }
     {
-        self.own = rewritten(self.own, side, values);
+        match side {
+            Side::Lower => self.own.lower = written_over(values, self.own.lower),
+            Side::Upper => self.own.upper = written_over(values, self.own.upper),
+        }
     }
 
     /// The end below, as it stands.

@@ -1,10 +1,11 @@
 // Making a box, and what it says to a move.
-ghost use Rattle.std.specs.Prelude.{◌≡◌, ℕ, ◌&&◌, [], ◌∷◌, nat_le, unsigned_abs, Ok};
+ghost use Rattle.std.specs.Prelude.{◌≡◌, ℕ, ◌&&◌, [], ◌∷◌, true, false, nat_le, unsigned_abs, MatchResult};
 ghost use Rattle.units.specs.Axes.{axis_of};
+ghost use Rattle.units.specs.declared.fault.Fault.TheVariants.{Outside};
 ghost use Rattle.machine.specs.Made.{MadeWhere};
 ghost use Rattle.machine.specs.Ranges.{within};
 ghost use Rattle.machine.specs.Meaning.{limits};
-ghost use Rattle.machine.specs.Replies.{beyond, reply, limit_of};
+ghost use Rattle.machine.specs.Replies.{beyond, reply, box_at, limit_of};
 
 use crate::bounds::Bounds;
 use units::axis::{Axis, Point, Side};
@@ -30,13 +31,11 @@ impl Bounds {
     pub fn new(lower: Point, upper: Point) -> Result<Bounds, Fault>
         ensures { MadeWhere (within 2000000000 lower && within 2000000000 upper) (λ b. (b.lower ≡ lower) × (b.upper ≡ upper)) result }
     {
-        if !in_reach(lower) {
-            return Err(Fault::Argument);
+        if in_reach(lower) && in_reach(upper) {
+            Ok(Bounds { lower, upper })
+        } else {
+            Err(Fault::Argument)
         }
-        if !in_reach(upper) {
-            return Err(Fault::Argument);
-        }
-        Ok(Bounds { lower, upper })
     }
 
     /// Its lower or its upper limits.
@@ -49,44 +48,35 @@ impl Bounds {
         }
     }
 
-    /// The limit on the axis of that number; `Fault::Argument` where there is none.
-    pub fn limit(&self, axis: u8, side: Side) -> Result<i64, Fault>
-        ensures { result ≡ limit_of (Ok self.now) (axis_of axis) side }
+    /// What an end with this box alone tells of a limit.
+    pub fn limit(&self, level: usize, axis: u8, side: Side) -> Result<i64, Fault>
+        ensures { result ≡ limit_of (box_at (self.now ∷ []) level) (axis_of axis) side }
     {
+        if level > 0 {
+            return Err(Fault::Argument);
+        }
         Ok(self.limits_of(side).on(Axis::try_from(axis)?))
     }
 
-    fn excludes(&self, axis: Axis, v: i64) -> bool
-        ensures { result ≡ beyond self.now axis v }
+    fn admit_on(&self, axis: Axis, v: i64) -> Result<(), Fault>
+        ensures { MatchResult result (λ _. beyond self.now axis v ≡ false) (λ f. (beyond self.now axis v ≡ true) × (f ≡ Outside 0 axis 0)) }
     {
-        v < self.lower.on(axis) || self.upper.on(axis) < v
+        if v < self.lower.on(axis) || self.upper.on(axis) < v {
+            return Err(Fault::Outside {
+                place: 0,
+                axis,
+                level: 0,
+            });
+        }
+        Ok(())
     }
 
     /// What a move gets from this box alone.
     pub fn admit(&self, to: Point) -> Result<(), Fault>
         ensures { result ≡ reply (self.now ∷ []) to }
     {
-        if self.excludes(Axis::X, to.x) {
-            return Err(Fault::Outside {
-                place: 0,
-                axis: Axis::X,
-                level: 0,
-            });
-        }
-        if self.excludes(Axis::Y, to.y) {
-            return Err(Fault::Outside {
-                place: 0,
-                axis: Axis::Y,
-                level: 0,
-            });
-        }
-        if self.excludes(Axis::Z, to.z) {
-            return Err(Fault::Outside {
-                place: 0,
-                axis: Axis::Z,
-                level: 0,
-            });
-        }
-        Ok(())
+        self.admit_on(Axis::X, to.x)?;
+        self.admit_on(Axis::Y, to.y)?;
+        self.admit_on(Axis::Z, to.z)
     }
 }

@@ -83,10 +83,7 @@ impl MachineEnd for ScaleEnd {
     }
 
     fn limit(&self, level: usize, axis: u8, side: Side) -> Result<i64, Fault> {
-        if level > 0 {
-            return Err(Fault::Argument);
-        }
-        self.bounds.limit(axis, side)
+        self.bounds.limit(level, axis, side)
     }
 
     fn increment(&self, axis: u8) -> Result<u32, Fault> {
