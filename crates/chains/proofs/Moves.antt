@@ -1,47 +1,19 @@
 -- The computed set of axes is the relation.
-use Rattle.std.proofs.Common.{◌≡◌, ℕ, zero, suc, ◌<◌, Bool, true, false, ◌&&◌, ◌||◌, eqb, ◌⊎◌, List, [], ◌∷◌, get_or, sym, refl, ap, ◌∙◌, subst, inl, inr, arith, lit<, eq-eqb, eqb-true}
+use Rattle.std.proofs.Common.{◌≡◌, ℕ, zero, suc, ◌<◌, Bool, true, false, ◌||◌, eqb, ◌⊎◌, List, [], ◌∷◌, get_or, sym, refl, ap, ◌∙◌, subst, inl, inr, arith, lit<, eq-eqb, eqb-true}
 use Rattle.units.specs.declared.axis.Plane.{Plane}
 use Rattle.units.specs.declared.axis.Plane.TheVariants.{Xy, Zx, Yz}
 use Rattle.chains.specs.declared.step.Step.{Step}
 use Rattle.chains.specs.declared.step.Step.TheVariants.{Offset, Scale, Mirror, Turn}
 use Rattle.chains.specs.Steps.{first_of, second_of, JoinsAxes}
+use Rattle.std.proofs.Math.Bool.{or-false}
+use Rattle.std.proofs.Math.Logic.{⊎_map}
+use Rattle.std.proofs.lemmas.Bool.{or_left, or_right, and_parts}
+use Rattle.std.proofs.lemmas.Grind.{common_steps}
 use Rattle.chains.specs.Joined.{Joins, Moved, by_name, by_turn, AllJoined, next_axis, joins_next, linked, reached, moved_by, moved_axes, MovedAxes}
-use Rattle.chains.proofs.Any.{or_left, or_right}
 
 -- of two joined axes both are reached or none
 ring : (a b c across down : Bool) → reached a b c true across down ≡ reached b c a across down true
-ring true true true true true = refl
-ring true true true true false = refl
-ring true true true false true = refl
-ring true true true false false = refl
-ring true true false true true = refl
-ring true true false true false = refl
-ring true true false false true = refl
-ring true true false false false = refl
-ring true false true true true = refl
-ring true false true true false = refl
-ring true false true false true = refl
-ring true false true false false = refl
-ring true false false true true = refl
-ring true false false true false = refl
-ring true false false false true = refl
-ring true false false false false = refl
-ring false true true true true = refl
-ring false true true true false = refl
-ring false true true false true = refl
-ring false true true false false = refl
-ring false true false true true = refl
-ring false true false true false = refl
-ring false true false false true = refl
-ring false true false false false = refl
-ring false false true true true = refl
-ring false false true true false = refl
-ring false false true false true = refl
-ring false false true false false = refl
-ring false false false true true = refl
-ring false false false true false = refl
-ring false false false false true = refl
-ring false false false false false = refl
+ring a b c across down = grind (arith, common_steps)
 
 link_by : (l : ℕ → Bool) (n : List Bool) (a : ℕ) → a < 3 → l a ≡ true → moved_by l n a ≡ moved_by l n (next_axis a)
 link_by l n zero h e = rw e (ring (get_or n 0 false) (get_or n 1 false) (get_or n 2 false) (l 1) (l 2))
@@ -91,24 +63,16 @@ step_link (Turn plane angle) a b (inr (e, f)) = inr (record {
   turn = or_left (eqb (first_of plane) b) false (eq-eqb (first_of plane) b (sym f));
 })
 
-or_none : (x : Bool) → x || false ≡ true → x ≡ true
-or_none true e = refl
-or_none false e = e
-
 here : (s : Step) (ss : List Step) (a b : ℕ) → Link (s ∷ []) a b → Link (s ∷ ss) a b
-here s ss a b l = record { below = l.below; next = l.next; turn = or_left (joins_next a s) (linked a ss) (or_none (joins_next a s) l.turn) }
+here s ss a b l = record { below = l.below; next = l.next; turn = or_left (joins_next a s) (linked a ss) (rw or-false at l.turn) }
 
 there : (s : Step) (ss : List Step) (a b : ℕ) → Link ss a b → Link (s ∷ ss) a b
 there s ss a b l = record { below = l.below; next = l.next; turn = or_right (joins_next a s) (linked a ss) l.turn }
 
-either : {A B C D : Type 0} → A ⊎ B → (A → C) → (B → D) → C ⊎ D
-either (inl x) f g = inl (f x)
-either (inr y) f g = inr (g y)
-
 links : (ss : List Step) (a b : ℕ) → Joins ss a b → (Link ss a b) ⊎ (Link ss b a)
 links [] a b j = absurd j
-links (s ∷ ss) a b (inl j) = either (step_link s a b j) (here s ss a b) (here s ss b a)
-links (s ∷ ss) a b (inr j) = either (links ss a b j) (there s ss a b) (there s ss b a)
+links (s ∷ ss) a b (inl j) = ⊎_map (here s ss a b) (here s ss b a) (step_link s a b j)
+links (s ∷ ss) a b (inr j) = ⊎_map (there s ss a b) (there s ss b a) (links ss a b j)
 
 step_joins : (s : Step) (k : ℕ) → joins_next k s ≡ true → JoinsAxes s k (next_axis k) × JoinsAxes s (next_axis k) k
 step_joins (Offset by) k e = absurd (let z : ◌≡◌ {A = ℕ} 0 1 = cc in omega arith)
@@ -143,10 +107,6 @@ complete ss n a (by_name b e) = or_left (get_or n b false) _ e
 complete ss n a (by_turn c b j m) = sym (same_by ss n c b (links ss c b j)) ∙ complete ss n c m
 
 -- the computed set is in the relation
-and_both : (x y : Bool) → x && y ≡ true → (x ≡ true) × (y ≡ true)
-and_both true y e = (refl, e)
-and_both false y e = absurd (let z : ◌≡◌ {A = ℕ} 0 1 = cc in omega arith)
-
 round : (a : ℕ) → a < 3 → next_axis (next_axis (next_axis a)) ≡ a
 round zero h = refl
 round (suc zero) h = refl
@@ -164,13 +124,13 @@ module _ (ss : List Step) (n : List Bool) where
   sound a h e =
       or_by (Moved ss n a) (get_or n a false) _ e (λ x. by_name a x)
       (λ r. or_by (Moved ss n a) _ _ r
-      (λ u. let p = and_both (linked a ss) _ u in down a p.0
+      (λ u. let p = and_parts (linked a ss) _ u in down a p.0
       (or_by (Moved ss n (next_axis a)) (get_or n (next_axis a) false) _ p.1 (λ x. by_name (next_axis a) x)
-      (λ w. let q = and_both (linked (next_axis a) ss) _ w in down (next_axis a) q.0 (by_name (next_axis (next_axis a)) q.1))))
-      (λ u. let p = and_both (linked (next_axis (next_axis a)) ss) _ u in
+      (λ w. let q = and_parts (linked (next_axis a) ss) _ w in down (next_axis a) q.0 (by_name (next_axis (next_axis a)) q.1))))
+      (λ u. let p = and_parts (linked (next_axis (next_axis a)) ss) _ u in
       subst (Moved ss n) (round a h) (up (next_axis (next_axis a)) p.0
       (or_by (Moved ss n (next_axis (next_axis a))) (get_or n (next_axis (next_axis a)) false) _ p.1 (λ x. by_name (next_axis (next_axis a)) x)
-      (λ w. let q = and_both (linked (next_axis a) ss) _ w in up (next_axis a) q.0 (by_name (next_axis a) q.1))))))
+      (λ w. let q = and_parts (linked (next_axis a) ss) _ w in up (next_axis a) q.0 (by_name (next_axis a) q.1))))))
 
   joined_both : (a b : ℕ) → (Link ss a b) ⊎ (Link ss b a) → (a < 3) × (b < 3)
   joined_both a b (inl l) = (l.below, subst (λ (z : ℕ). z < 3) (sym l.next) (next_below a))
@@ -191,8 +151,3 @@ module _ (ss : List Step) (n : List Bool) where
 
   pub moved_as : (r : List Bool) → r ≡ moved_axes ss n → MovedAxes ss n r
   moved_as r e = subst (MovedAxes ss n) (sym e) moved_axes_lem
-
-pub axes_is : (ss : List Step) (n : List Bool) (r s t xy yz zx : Bool) → xy ≡ linked 0 ss → yz ≡ linked 1 ss → zx ≡ linked 2 ss →
-    r ≡ reached (get_or n 0 false) (get_or n 1 false) (get_or n 2 false) xy yz zx → s ≡ reached (get_or n 1 false) (get_or n 2 false) (get_or n 0 false) yz zx xy → t ≡ reached (get_or n 2 false) (get_or n 0 false) (get_or n 1 false) zx xy yz →
-    r ∷ s ∷ t ∷ [] ≡ moved_axes ss n
-axes_is ss n r s t xy yz zx exy eyz ezx er es et = rw (er, es, et, exy, eyz, ezx) refl

@@ -1,5 +1,6 @@
 -- A chain as the list of its steps, the outermost first.
-use Rattle.std.specs.Prelude.{ℕ, zero, suc, Bool, false, cond, ◌||◌, List, [], ◌∷◌, length, take, Some, None, Ok, Err, Option, Result, nat_le}
+use Rattle.std.specs.Prelude.{ℕ, zero, suc, Bool, cond, List, [], ◌∷◌, length, take, Some, None, Ok, Err, Option, Result, nat_le}
+use Rattle.std.specs.List.{list_any}
 use Rattle.units.specs.Quantities.{turned_on}
 use Rattle.units.specs.declared.fault.Fault.{Fault}
 use Rattle.units.specs.declared.fault.Fault.TheVariants.{ChainFull}
@@ -51,13 +52,9 @@ abbrev pub left_by : List Step → Result (List Step) Fault → List Step
 left_by ss (Ok longer) = longer
 left_by ss (Err f) = ss
 
-abbrev pub any_step : (Step → Bool) → List Step → Bool
-any_step f [] = false
-any_step f (s ∷ ss) = f s || any_step f ss
-
 -- the axes that some step touches
 abbrev pub touched_at : List Step → ℕ → Bool
-touched_at ss a = any_step (λ s. touches s a) ss
+touched_at ss a = list_any (λ s. touches s a) ss
 
 abbrev pub touched : List Step → List Bool
 touched ss = touched_at ss 0 ∷ touched_at ss 1 ∷ touched_at ss 2 ∷ []

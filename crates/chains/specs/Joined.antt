@@ -2,7 +2,7 @@
 use Rattle.std.specs.Prelude.{◌≡◌, ℕ, zero, suc, ◌<◌, Bool, true, false, ◌&&◌, ◌||◌, ◌⊎◌, List, [], ◌∷◌, ◌==◌, slice_index_or}
 use Rattle.chains.specs.declared.step.Step.{Step}
 use Rattle.chains.specs.declared.step.Step.TheVariants.{Offset, Scale, Mirror, Turn}
-use Rattle.chains.specs.Chains.{any_step}
+use Rattle.std.specs.List.{list_any}
 use Rattle.chains.specs.Steps.{first_of, JoinsAxes}
 
 -- some step joins the two axes
@@ -32,7 +32,7 @@ joins_next k (Mirror named) = false
 joins_next k (Turn plane angle) = first_of plane == k
 
 abbrev pub linked : ℕ → List Step → Bool
-linked k ss = any_step (joins_next k) ss
+linked k ss = list_any (joins_next k) ss
 
 -- named, or joined to the next axis b or the one before c, directly or by way of the other; up, across and down are the joins a to b, b to c, c to a
 abbrev pub reached : Bool → Bool → Bool → Bool → Bool → Bool → Bool

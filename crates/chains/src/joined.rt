@@ -7,49 +7,35 @@ use crate::chain::Chain;
 use crate::plane::first_axis;
 use crate::step::Step;
 
-/// Whether the step joins the axis to the next one of the ring X, Y, Z, X.
-fn joins_next(k: usize, step: Step) -> bool
-    ensures { result ≡ joins_next k step }
-{
-    match step {
-        Step::Turn(plane, _) => first_axis(plane) == k,
-        _ => false,
+impl Step {
+    // Whether it joins the axis to the next one of the ring X, Y, Z, X.
+    fn joins_next(self, k: usize) -> bool
+        ensures { result ≡ joins_next k self }
+    {
+        matches!(self, Step::Turn(plane, _) if first_axis(plane) == k)
     }
-}
-
-fn some_joins(chain: &Chain, k: usize) -> bool
-    ensures { result ≡ linked k (steps_of chain.now) }
-{
-    for i in 0..chain.count {
-        if joins_next(k, chain.steps[i]) {
-            return true;
-        }
-    }
-    false
 }
 
 /// The axis a is moved: named, or joined to a named one, at once or by way of the third.
 fn reaches(a: bool, b: bool, c: bool, up: bool, across: bool, down: bool) -> bool
     ensures { result ≡ reached a b c up across down }
 {
-    if a {
-        return true;
-    }
-    if up && (b || (across && c)) {
-        return true;
-    }
-    down && (c || (across && b))
+    a || (up && (b || (across && c))) || (down && (c || (across && b)))
 }
 
 impl Chain {
+    fn joins_next(&self, k: usize) -> bool
+        ensures { result ≡ linked k (steps_of self.now) }
+    {
+        self.steps().iter().any(|step| step.joins_next(k))
+    }
+
     /// The axes that move where some are named: those, and with one of two axes that a turn joins the other.
     pub fn moved_axes(&self, named: [bool; 3]) -> [bool; 3]
         ensures told { result ≡ moved_axes (steps_of self.now) named }
         ensures moved { MovedAxes (steps_of self.now) named result }
     {
-        let xy = some_joins(self, 0);
-        let yz = some_joins(self, 1);
-        let zx = some_joins(self, 2);
+        let (xy, yz, zx) = (self.joins_next(0), self.joins_next(1), self.joins_next(2));
         [
             reaches(named[0], named[1], named[2], xy, yz, zx),
             reaches(named[1], named[2], named[0], yz, zx, xy),

@@ -1,6 +1,6 @@
 // The axes of a plane, by index: X 0, Y 1, Z 2.
 ghost use Rattle.std.specs.Prelude.{◌≡◌, ℕ, ◌<◌};
-ghost use Rattle.chains.specs.Steps.{first_of, second_of, same_plane};
+ghost use Rattle.chains.specs.Steps.{first_of, second_of};
 
 use units::axis::Plane;
 
@@ -26,11 +26,4 @@ pub fn second_axis(plane: Plane) -> usize
         Plane::Zx => 0,
         Plane::Yz => 2,
     }
-}
-
-/// Whether two turns act in one plane.
-pub fn same_plane(p: Plane, q: Plane) -> bool
-    ensures { result ≡ same_plane p q }
-{
-    first_axis(p) == first_axis(q)
 }

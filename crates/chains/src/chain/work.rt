@@ -1,35 +1,20 @@
 // Making, replacing and lengthening a chain, in place.
-ghost use Rattle.std.specs.Prelude.{◌≡◌, ℕ, ◌<◌, ◌≤◌, Bool, true, false, cond, List, [], ◌∷◌, ◌++◌, length, slice_set};
+ghost use Rattle.std.specs.Prelude.{◌≡◌, ℕ, ◌<◌, ◌≤◌, Bool, true, false, cond, List, [], ◌∷◌, ◌++◌, length};
 ghost use Rattle.chains.specs.declared.step.Step.TheVariants.{Turn};
 ghost use Rattle.chains.specs.Chains.{steps_of, appended, replied, left_by, step_at, merged_step};
 
 use crate::chain::Chain;
-use crate::plane::same_plane;
 use crate::step::Step;
-use units::axis::Plane;
 use units::fault::Fault;
-use units::quantity::Angle;
 
 /// The one step of two turns in one plane, the second innermost.
 fn merged(last: Step, step: Step) -> Option<Step>
     ensures { result ≡ merged_step last step }
 {
-    match last {
-        Step::Turn(p, a) => match step {
-            Step::Turn(q, b) => merged_turns(p, a, q, b),
-            _ => None,
-        },
+    match (last, step) {
+        (Step::Turn(p, a), Step::Turn(q, b)) => (p == q).then(|| Step::Turn(p, a.plus(b))),
         _ => None,
     }
-}
-
-fn merged_turns(p: Plane, a: Angle, q: Plane, b: Angle) -> Option<Step>
-    ensures { result ≡ merged_step (Turn p a) (Turn q b) }
-{
-    if same_plane(p, q) {
-        return Some(Step::Turn(p, a.plus(b)));
-    }
-    None
 }
 
 impl Chain {
@@ -53,26 +38,27 @@ impl Chain {
         self.count
     }
 
+    /// Its steps, the outermost first.
+    pub fn steps(&self) -> &[Step]
+        ensures { result.now ≡ steps_of self.now }
+    {
+        &self.steps[..self.count]
+    }
+
     /// The nth step, from 1, the outermost; none where there is none.
     pub fn step(&self, n: usize) -> Option<Step>
         ensures { result ≡ step_at (steps_of self.now) n }
     {
-        if n == 0 {
-            return None;
-        }
-        if n > self.count {
-            return None;
-        }
-        Some(self.steps[n - 1])
+        self.steps().get(n.checked_sub(1)?).copied()
     }
 
-    // The step at a place; how many count stays.
-    fn put(&mut self, place: usize, step: Step)
-        requires { place < 8 }
-        ensures at { self.new.steps ≡ slice_set self.old.steps place step }
-        ensures count { self.new.count ≡ self.old.count }
+    // One innermost step more, as it is.
+    fn push(&mut self, step: Step)
+        requires { self.old.count < 8 }
+        ensures { steps_of self.new ≡ steps_of self.old ++ step ∷ [] }
     {
-        self.steps[place] = step;
+        self.steps[self.count] = step;
+        self.count += 1;
     }
 
     /// No step any more.
@@ -86,8 +72,8 @@ impl Chain {
     pub fn replace(&mut self, step: Step)
         ensures { steps_of self.new ≡ step ∷ [] }
     {
-        self.put(0, step);
-        self.count = 1;
+        self.clear();
+        self.push(step);
     }
 
     /// One innermost step more; a turn onto an innermost turn of the same plane adds to its angle instead.
@@ -96,20 +82,14 @@ impl Chain {
         ensures told { result ≡ replied (appended (steps_of self.old) step) }
         ensures left { steps_of self.new ≡ left_by (steps_of self.old) (appended (steps_of self.old) step) }
     {
-        if self.count == 0 {
-            self.replace(step);
-            return Ok(());
-        }
-        let last = self.steps[self.count - 1];
-        if let Some(turn) = merged(last, step) {
-            self.put(self.count - 1, turn);
+        if let Some(turn) = self.steps().last().and_then(|last| merged(*last, step)) {
+            self.steps[self.count - 1] = turn;
             return Ok(());
         }
         if self.count == Chain::MOST {
             return Err(Fault::ChainFull { place: 0 });
         }
-        self.put(self.count, step);
-        self.count += 1;
+        self.push(step);
         Ok(())
     }
 }
