@@ -30,7 +30,7 @@ module _ (ws : List Item) where
   axis_taken Y = refl
   axis_taken Z = refl
 
-  passed_taken : (a : Passed) → taken_passed (slots_of ws).others a ≡ has (is_passed a) ws
+  passed_taken : (a : Passed) → taken_passed (slots_of ws).passed a ≡ has (is_passed a) ws
   passed_taken F = refl
   passed_taken S = refl
   passed_taken T = refl
@@ -64,14 +64,30 @@ module _ (ws : List Item) where
   put_g (Distance d) p = refl
   put_g (Limit l) p = refl
 
+  put_f : (f : FrameName) (p : ℕ) → put_said (slots_of ws) (s_name f) p ≡ slots_of (record { says = s_name f; place = p } ∷ ws)
+  put_f Trans p = refl
+  put_f Rot p = refl
+  put_f Scale p = refl
+  put_f Mirror p = refl
+  put_f Atrans p = refl
+  put_f Arot p = refl
+  put_f Ascale p = refl
+  put_f Amirror p = refl
+
+  put_passed : (a : Passed) (p : ℕ) → put_said (slots_of ws) (s_passed a) p ≡ slots_of (record { says = s_passed a; place = p } ∷ ws)
+  put_passed F p = refl
+  put_passed S p = refl
+  put_passed T p = refl
+  put_passed D p = refl
+
   put_said_lem : (x : Said) (p : ℕ) → put_said (slots_of ws) x p ≡ slots_of (record { says = x; place = p } ∷ ws)
-  put_said_lem (s_name f) p = refl
+  put_said_lem (s_name f) p = put_f f p
   put_said_lem (s_axis a n) p = refl
   put_said_lem (s_rpl n) p = refl
   put_said_lem (s_g g) p = put_g g p
   put_said_lem (s_m m) p = refl
   put_said_lem s_n p = refl
-  put_said_lem (s_passed a) p = refl
+  put_said_lem (s_passed a) p = put_passed a p
 
   -- a word put into the slots of a list makes the slots of the longer list
   pub put_is : (x : Item) → put (slots_of ws) x ≡ slots_of (x ∷ ws)

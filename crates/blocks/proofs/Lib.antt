@@ -1,6 +1,5 @@
 pub mod Measured
 pub mod Ordinaries
-pub mod Products
 pub mod Held
 pub mod Settled
 pub mod Turns

@@ -221,4 +221,4 @@ Unrepeated (x ∷ earlier) = (repeated earlier x.says ≡ false) × Unrepeated e
 
 -- the words in their slots
 abbrev pub slots_of : List Item → Slots
-slots_of ws = record { names = record { trans = has (is_name Trans) ws; rot = has (is_name Rot) ws; scale = has (is_name Scale) ws; mirror = has (is_name Mirror) ws; atrans = has (is_name Atrans) ws; arot = has (is_name Arot) ws; ascale = has (is_name Ascale) ws; amirror = has (is_name Amirror) ws }; groups = record { selections = record { motion = find (g_of motion_of) ws; plane = find (g_of plane_of) ws; settable = find (g_of settable_of) ws; unit = find (g_of unit_of) ws; distance = find (g_of distance_of) ws }; machine = find (g_of machine_of) ws; limit = has is_limit ws }; axes = record { x = find (axis_of X) ws; y = find (axis_of Y) ws; z = find (axis_of Z) ws }; others = record { n = has is_n ws; f = has (is_passed F) ws; s = has (is_passed S) ws; t = has (is_passed T) ws; d = has (is_passed D) ws }; ms = record { count = count_m ws; ends = ends_m ws }; rpl = find rpl_of ws }
+slots_of ws = record { names = has (is_name Trans) ws ∷ has (is_name Rot) ws ∷ has (is_name Scale) ws ∷ has (is_name Mirror) ws ∷ has (is_name Atrans) ws ∷ has (is_name Arot) ws ∷ has (is_name Ascale) ws ∷ has (is_name Amirror) ws ∷ []; groups = record { selections = record { motion = find (g_of motion_of) ws; plane = find (g_of plane_of) ws; settable = find (g_of settable_of) ws; unit = find (g_of unit_of) ws; distance = find (g_of distance_of) ws }; machine = find (g_of machine_of) ws; limit = has is_limit ws }; axes = record { x = find (axis_of X) ws; y = find (axis_of Y) ws; z = find (axis_of Z) ws }; n = has is_n ws; passed = has (is_passed F) ws ∷ has (is_passed S) ws ∷ has (is_passed T) ws ∷ has (is_passed D) ws ∷ []; ms = record { count = count_m ws; ends = ends_m ws }; rpl = find rpl_of ws }

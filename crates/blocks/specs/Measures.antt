@@ -1,5 +1,5 @@
 -- A number as a length, a factor or an angle, where it is in range.
-use Rattle.std.specs.Prelude.{suc, ◌-◌, ◌*◌, ◌^◌, Bool, true, false, cond, ℤ, pos, negsuc, ◌*ℤ◌, None, Option, nat_le}
+use Rattle.std.specs.Prelude.{ℕ, suc, ◌-◌, ◌*◌, ◌^◌, Bool, true, false, cond, ℤ, pos, negsuc, ◌*ℤ◌, None, Option, nat_le}
 use Rattle.std.proofs.Common.{lit<}
 use Rattle.units.specs.declared.quantity.Length.{Length}
 use Rattle.units.specs.declared.quantity.Factor.{Factor}
@@ -20,10 +20,22 @@ whole_angle (negsuc n) = cond (nat_le 3600000 (suc n)) None (angle_of (3600000 -
 abbrev pub zero_angle : Angle
 zero_angle = record { ticks = 0; below = lit< tt }
 
+-- a number in parts, each of its last counted decimals being so many
+abbrev pub parts_of : Number → ℕ → ℤ → ℤ
+parts_of n decimals each = n.value *ℤ (each *ℤ pos (10 ^ (decimals - n.decimals)))
+
+-- how many decimals of a length are counted
+abbrev pub most_in : Bool → ℕ
+most_in true = 4
+most_in false = 5
+
 -- units of 10 nm: at most 5 decimals of a millimetre, or 4 of an inch, which is 2,540,000 units
+abbrev pub units_in : Bool → Number → ℤ
+units_in true n = n.value *ℤ pos (254 * 10 ^ (4 - n.decimals))
+units_in false n = n.value *ℤ pos (10 ^ (5 - n.decimals))
+
 abbrev pub length_in : Bool → Number → Option Length
-length_in true n = cond (nat_le n.decimals 4) (length_of (n.value *ℤ pos (254 * 10 ^ (4 - n.decimals)))) None
-length_in false n = cond (nat_le n.decimals 5) (length_of (n.value *ℤ pos (10 ^ (5 - n.decimals)))) None
+length_in inch n = cond (nat_le n.decimals (most_in inch)) (length_of (units_in inch n)) None
 
 -- hundred-thousandths
 abbrev pub factor_in : Number → Option Factor

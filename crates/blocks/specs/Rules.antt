@@ -1,5 +1,5 @@
 -- Declines 6, 7 and 8: over the words of a block, and over what is gathered of them.
-use Rattle.std.specs.Prelude.{ℕ, Bool, true, false, cond, not, ◌&&◌, ◌||◌, List, is_some, Some, None, Option, nat_lt}
+use Rattle.std.specs.Prelude.{◌≡◌, ℕ, Bool, true, false, cond, not, ◌&&◌, ◌||◌, List, is_some, Some, None, Option, nat_lt}
 use Rattle.reader.specs.declared.functions.LengthUnit.{LengthUnit}
 use Rattle.reader.specs.declared.functions.LengthUnit.TheVariants.{Inch, Millimetre}
 use Rattle.reader.specs.declared.types.Number.{Number}
@@ -115,6 +115,10 @@ abbrev pub lesser : Option ℕ → Option ℕ → Option ℕ
 lesser None o = o
 lesser (Some p) None = Some p
 lesser (Some p) (Some q) = Some (cond (nat_lt q p) q p)
+
+-- what a function tells is what the definition does
+abbrev pub Tells : {A B : Type 0} → (A → B → Type 0) → (A → B) → Type 0
+Tells {A} {B} post f = (x : A) (y : B) → post x y → y ≡ f x
 
 abbrev pub place_if : (Number → Bool) → Option Measured → Option ℕ
 place_if test None = None

@@ -1,7 +1,9 @@
 -- The slots of a block, and what a word does to them.
-use Rattle.std.specs.Prelude.{ℕ, ◌+◌, Bool, true, false, cond, ◌||◌, is_some, Some, None, Option, ◌==◌, nat_le}
+use Rattle.std.specs.Prelude.{ℕ, ◌+◌, Bool, true, false, cond, List, [], ◌∷◌, is_some, Some, None, Option, ◌==◌, nat_le, slice_index_or, slice_set}
 use Rattle.units.specs.declared.axis.Axis.{Axis}
 use Rattle.units.specs.declared.axis.Axis.TheVariants.{X, Y, Z}
+use Rattle.units.specs.declared.axis.ByAxis.{ByAxis}
+use Rattle.units.specs.Axes.{on_axis}
 use Rattle.reader.specs.declared.functions.GFunction.{GFunction}
 use Rattle.reader.specs.declared.functions.GFunction.TheVariants.{Motion, Plane, Settable, Machine, Unit as LengthsIn, Distance, Limit}
 use Rattle.reader.specs.declared.functions.MFunction.{MFunction}
@@ -14,10 +16,7 @@ use Rattle.reader.specs.declared.types.Said.{Said}
 use Rattle.reader.specs.declared.types.Said.TheVariants.{Name as s_name, Axis as s_axis, Rpl as s_rpl, G as s_g, M as s_m, N as s_n, Passed as s_passed}
 use Rattle.reader.specs.declared.types.Item.{Item}
 use Rattle.blocks.specs.declared.gathered.Measured.{Measured}
-use Rattle.blocks.specs.declared.gathered.Names.{Names}
 use Rattle.blocks.specs.declared.gathered.Groups.{Groups}
-use Rattle.blocks.specs.declared.gathered.Axes.{Axes}
-use Rattle.blocks.specs.declared.gathered.Others.{Others}
 use Rattle.blocks.specs.declared.gathered.Ms.{Ms}
 use Rattle.blocks.specs.declared.gathered.Slots.{Slots}
 
@@ -60,18 +59,11 @@ over o (Some v) = Some v
 abbrev pub hit : {X : Type 0} → Bool → X → Option X
 hit b v = cond b (Some v) None
 
-abbrev pub taken_name : Names → FrameName → Bool
-taken_name s Trans = s.trans
-taken_name s Rot = s.rot
-taken_name s Scale = s.scale
-taken_name s Mirror = s.mirror
-taken_name s Atrans = s.atrans
-taken_name s Arot = s.arot
-taken_name s Ascale = s.ascale
-taken_name s Amirror = s.amirror
+abbrev pub taken_name : List Bool → FrameName → Bool
+taken_name s f = slice_index_or s (name_index f) false
 
-abbrev pub put_name : Names → FrameName → Names
-put_name s f = record { trans = same_name Trans f || s.trans; rot = same_name Rot f || s.rot; scale = same_name Scale f || s.scale; mirror = same_name Mirror f || s.mirror; atrans = same_name Atrans f || s.atrans; arot = same_name Arot f || s.arot; ascale = same_name Ascale f || s.ascale; amirror = same_name Amirror f || s.amirror }
+abbrev pub put_name : List Bool → FrameName → List Bool
+put_name s f = slice_set s (name_index f) true
 
 abbrev pub taken_group : Groups → GFunction → Bool
 taken_group g (Motion m) = is_some g.selections.motion
@@ -91,25 +83,17 @@ put_group g (Distance d) q = record { selections = record { motion = g.selection
 put_group g Machine q = record { selections = g.selections; machine = Some q; limit = g.limit }
 put_group g (Limit s) q = record { selections = g.selections; machine = g.machine; limit = true }
 
-abbrev pub taken_axis : Axes → Axis → Bool
-taken_axis s X = is_some s.x
-taken_axis s Y = is_some s.y
-taken_axis s Z = is_some s.z
+abbrev pub taken_axis : ByAxis (Option Measured) → Axis → Bool
+taken_axis s a = is_some (on_axis s a)
 
-abbrev pub put_axis : Axes → Axis → Measured → Axes
+abbrev pub put_axis : ByAxis (Option Measured) → Axis → Measured → ByAxis (Option Measured)
 put_axis s a v = record { x = over s.x (hit (same_axis X a) v); y = over s.y (hit (same_axis Y a) v); z = over s.z (hit (same_axis Z a) v) }
 
-abbrev pub taken_passed : Others → Passed → Bool
-taken_passed s F = s.f
-taken_passed s S = s.s
-taken_passed s T = s.t
-taken_passed s D = s.d
+abbrev pub taken_passed : List Bool → Passed → Bool
+taken_passed s a = slice_index_or s (passed_index a) false
 
-abbrev pub put_passed : Others → Passed → Others
-put_passed s a = record { n = s.n; f = same_passed F a || s.f; s = same_passed S a || s.s; t = same_passed T a || s.t; d = same_passed D a || s.d }
-
-abbrev pub put_n : Others → Others
-put_n s = record { n = true; f = s.f; s = s.s; t = s.t; d = s.d }
+abbrev pub put_passed : List Bool → Passed → List Bool
+put_passed s a = slice_set s (passed_index a) true
 
 -- M2 and M30 end the programme
 abbrev pub ending : MFunction → Bool → Bool
@@ -125,21 +109,21 @@ taken s (s_axis a n) = taken_axis s.axes a
 taken s (s_rpl n) = is_some s.rpl
 taken s (s_g g) = taken_group s.groups g
 taken s (s_m m) = nat_le 5 s.ms.count
-taken s s_n = s.others.n
-taken s (s_passed a) = taken_passed s.others a
+taken s s_n = s.n
+taken s (s_passed a) = taken_passed s.passed a
 
 abbrev pub put_said : Slots → Said → ℕ → Slots
-put_said s (s_name f) p = record { names = put_name s.names f; groups = s.groups; axes = s.axes; others = s.others; ms = s.ms; rpl = s.rpl }
-put_said s (s_axis a n) p = record { names = s.names; groups = s.groups; axes = put_axis s.axes a (record { number = n; place = p }); others = s.others; ms = s.ms; rpl = s.rpl }
-put_said s (s_rpl n) p = record { names = s.names; groups = s.groups; axes = s.axes; others = s.others; ms = s.ms; rpl = Some (record { number = n; place = p }) }
-put_said s (s_g g) p = record { names = s.names; groups = put_group s.groups g p; axes = s.axes; others = s.others; ms = s.ms; rpl = s.rpl }
-put_said s (s_m m) p = record { names = s.names; groups = s.groups; axes = s.axes; others = s.others; ms = put_m s.ms m; rpl = s.rpl }
-put_said s s_n p = record { names = s.names; groups = s.groups; axes = s.axes; others = put_n s.others; ms = s.ms; rpl = s.rpl }
-put_said s (s_passed a) p = record { names = s.names; groups = s.groups; axes = s.axes; others = put_passed s.others a; ms = s.ms; rpl = s.rpl }
+put_said s (s_name f) p = record { names = put_name s.names f; groups = s.groups; axes = s.axes; n = s.n; passed = s.passed; ms = s.ms; rpl = s.rpl }
+put_said s (s_axis a n) p = record { names = s.names; groups = s.groups; axes = put_axis s.axes a (record { number = n; place = p }); n = s.n; passed = s.passed; ms = s.ms; rpl = s.rpl }
+put_said s (s_rpl n) p = record { names = s.names; groups = s.groups; axes = s.axes; n = s.n; passed = s.passed; ms = s.ms; rpl = Some (record { number = n; place = p }) }
+put_said s (s_g g) p = record { names = s.names; groups = put_group s.groups g p; axes = s.axes; n = s.n; passed = s.passed; ms = s.ms; rpl = s.rpl }
+put_said s (s_m m) p = record { names = s.names; groups = s.groups; axes = s.axes; n = s.n; passed = s.passed; ms = put_m s.ms m; rpl = s.rpl }
+put_said s s_n p = record { names = s.names; groups = s.groups; axes = s.axes; n = true; passed = s.passed; ms = s.ms; rpl = s.rpl }
+put_said s (s_passed a) p = record { names = s.names; groups = s.groups; axes = s.axes; n = s.n; passed = put_passed s.passed a; ms = s.ms; rpl = s.rpl }
 
 -- one word more
 abbrev pub put : Slots → Item → Slots
 put s x = put_said s x.says x.place
 
 abbrev pub empty_slots : Slots
-empty_slots = record { names = record { trans = false; rot = false; scale = false; mirror = false; atrans = false; arot = false; ascale = false; amirror = false }; groups = record { selections = record { motion = None; plane = None; settable = None; unit = None; distance = None }; machine = None; limit = false }; axes = record { x = None; y = None; z = None }; others = record { n = false; f = false; s = false; t = false; d = false }; ms = record { count = 0; ends = false }; rpl = None }
+empty_slots = record { names = false ∷ false ∷ false ∷ false ∷ false ∷ false ∷ false ∷ false ∷ []; groups = record { selections = record { motion = None; plane = None; settable = None; unit = None; distance = None }; machine = None; limit = false }; axes = record { x = None; y = None; z = None }; n = false; passed = false ∷ false ∷ false ∷ false ∷ []; ms = record { count = 0; ends = false }; rpl = None }

@@ -12,7 +12,7 @@ use Rattle.blocks.specs.declared.gathered.Instruction.{Instruction}
 use Rattle.blocks.specs.declared.gathered.Instruction.TheVariants.{Frame as a_frame, Limit as a_limit}
 use Rattle.blocks.specs.declared.gathered.Placed.{Placed}
 use Rattle.blocks.specs.declared.gathered.Measured.{Measured}
-use Rattle.blocks.specs.declared.gathered.Axes.{Axes}
+use Rattle.units.specs.declared.axis.ByAxis.{ByAxis}
 use Rattle.blocks.specs.declared.gathered.Slots.{Slots}
 use Rattle.blocks.specs.declared.gathered.Order.{Order}
 use Rattle.blocks.specs.declared.types.FrameStep.{FrameStep}
@@ -21,11 +21,10 @@ use Rattle.blocks.specs.declared.types.FrameChange.{FrameChange}
 use Rattle.blocks.specs.declared.types.FrameChange.TheVariants.{Empty, Replace, Append}
 use Rattle.blocks.specs.declared.types.Block.{Block}
 use Rattle.blocks.specs.declared.types.Block.TheVariants.{Frame, Limit, Ordinary}
-use Rattle.blocks.specs.Slots.{hit}
 use Rattle.blocks.specs.Found.{slots_of}
 use Rattle.blocks.specs.Order.{order_of}
 use Rattle.blocks.specs.Measures.{length_in, factor_in, angle_in, zero_angle}
-use Rattle.blocks.specs.Rules.{misplaced, misplaced_in, unfit, unfit_in, measure, measure_under, out_of_range_at, out_of_range_in, inch_under, inch_in, lesser}
+use Rattle.blocks.specs.Rules.{misplaced, misplaced_in, unfit, unfit_in, measure, measure_under, out_of_range_at, out_of_range_in, inch_under, inch_in, lesser, place_if}
 
 abbrev pub length_at : Bool → Option Measured → Option Length
 length_at inch None = None
@@ -33,10 +32,9 @@ length_at inch (Some m) = length_in inch m.number
 
 -- the places of words that made no length, the least of them
 abbrev pub lacking_at : Option Measured → Option Length → Option ℕ
-lacking_at None v = None
-lacking_at (Some m) v = hit (not (is_some v)) m.place
+lacking_at w v = place_if (λ n. not (is_some v)) w
 
-abbrev pub lacking_in : Axes → List (Option Length) → Option ℕ
+abbrev pub lacking_in : ByAxis (Option Measured) → List (Option Length) → Option ℕ
 lacking_in a vs = lesser (lacking_at a.x (slice_index_or vs 0 None)) (lesser (lacking_at a.y (slice_index_or vs 1 None)) (lacking_at a.z (slice_index_or vs 2 None)))
 
 abbrev pub factor_at : Option Measured → Option Factor
@@ -52,14 +50,17 @@ angle_at None = zero_angle
 angle_at (Some m) = or_zero (angle_in m.number)
 
 -- by axis: X, Y, Z
-abbrev pub lengths : Bool → Axes → List (Option Length)
-lengths inch a = length_at inch a.x ∷ length_at inch a.y ∷ length_at inch a.z ∷ []
+abbrev pub each : {V : Type 0} → (Option Measured → V) → ByAxis (Option Measured) → List V
+each make a = make a.x ∷ make a.y ∷ make a.z ∷ []
 
-abbrev pub factors : Axes → List (Option Factor)
-factors a = factor_at a.x ∷ factor_at a.y ∷ factor_at a.z ∷ []
+abbrev pub lengths : Bool → ByAxis (Option Measured) → List (Option Length)
+lengths inch a = each (length_at inch) a
 
-abbrev pub named : Axes → List Bool
-named a = is_some a.x ∷ is_some a.y ∷ is_some a.z ∷ []
+abbrev pub factors : ByAxis (Option Measured) → List (Option Factor)
+factors a = each factor_at a
+
+abbrev pub named : ByAxis (Option Measured) → List Bool
+named a = each (λ w. is_some w) a
 
 abbrev pub step_of : StepKind → Bool → Slots → FrameStep
 step_of an_offset inch s = Offset (lengths inch s.axes)

@@ -22,18 +22,12 @@ fn gather(bytes: &[u8], g: &mut Gathered) -> Result<(), Fault>
 {
     let mut reader = BlockReader::new(bytes);
     while let Some(read) = reader.next_word() {
-        match read {
-            Ok(word) => match item(word) {
-                Some(x) => {
-                    if g.slots.taken(x.says) {
-                        return Err(Fault::Repeated { place: x.place });
-                    }
-                    g.slots.put(x);
-                    g.order.note(x);
-                }
-                None => {}
-            },
-            Err(fault) => return Err(fault),
+        if let Some(x) = item(read?) {
+            if g.slots.taken(x.says) {
+                return Err(Fault::Repeated { place: x.place });
+            }
+            g.slots.put(x);
+            g.order.note(x);
         }
     }
     Ok(())
@@ -50,8 +44,6 @@ pub fn typed_block(bytes: &[u8], inch: bool) -> Result<Block, Fault>
         slots: Slots::empty(),
         order: Order::empty(),
     };
-    match gather(bytes, &mut g) {
-        Ok(()) => judge(inch, &g),
-        Err(fault) => Err(fault),
-    }
+    gather(bytes, &mut g)?;
+    judge(inch, &g)
 }

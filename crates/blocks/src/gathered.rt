@@ -1,7 +1,7 @@
 // What is gathered from the words of a block, before its rules are applied.
 use crate::types::Selections;
 use reader::types::Number;
-use units::axis::Side;
+use units::axis::{ByAxis, Side};
 
 /// A number, and where its word stands.
 #[derive(Clone, Copy)]
@@ -10,59 +10,30 @@ pub struct Measured {
     pub place: usize,
 }
 
-/// Which frame names stand in the block.
-#[derive(Clone, Copy)]
-pub struct Names {
-    pub trans: bool,
-    pub rot: bool,
-    pub scale: bool,
-    pub mirror: bool,
-    pub atrans: bool,
-    pub arot: bool,
-    pub ascale: bool,
-    pub amirror: bool,
-}
-
 /// The G words: what they select, the place of G53, and whether G25 or G26 is there.
-#[derive(Clone, Copy)]
+#[derive(Clone, Copy, Default)]
 pub struct Groups {
     pub selections: Selections,
     pub machine: Option<usize>,
     pub limit: bool,
 }
 
-/// The axis words.
-#[derive(Clone, Copy)]
-pub struct Axes {
-    pub x: Option<Measured>,
-    pub y: Option<Measured>,
-    pub z: Option<Measured>,
-}
-
-/// Which of N, F, S, T and D stand in the block.
-#[derive(Clone, Copy)]
-pub struct Others {
-    pub n: bool,
-    pub f: bool,
-    pub s: bool,
-    pub t: bool,
-    pub d: bool,
-}
-
 /// The M words: how many, and whether one of them ends the programme.
-#[derive(Clone, Copy)]
+#[derive(Clone, Copy, Default)]
 pub struct Ms {
     pub count: usize,
     pub ends: bool,
 }
 
-/// A place for each address and for each G group.
-#[derive(Clone, Copy)]
+/// A place for each address and for each G group. `names` and `passed` tell which frame names and which of F, S, T and
+/// D stand in the block, in the order of their types.
+#[derive(Clone, Copy, Default)]
 pub struct Slots {
-    pub names: Names,
+    pub names: [bool; 8],
     pub groups: Groups,
-    pub axes: Axes,
-    pub others: Others,
+    pub axes: ByAxis<Option<Measured>>,
+    pub n: bool,
+    pub passed: [bool; 4],
     pub ms: Ms,
     pub rpl: Option<Measured>,
 }
@@ -92,7 +63,7 @@ pub struct Placed {
 
 /// What the order of the words decides, each the leftmost of its kind: the instruction, an N word behind another word,
 /// a word that may not stand beside an instruction, an axis word. `any` tells whether there is a word at all.
-#[derive(Clone, Copy)]
+#[derive(Clone, Copy, Default)]
 pub struct Order {
     pub any: bool,
     pub instruction: Option<Placed>,

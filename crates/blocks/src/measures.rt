@@ -1,7 +1,8 @@
 // Numbers as lengths, factors and angles, where they are in range.
-ghost use Rattle.std.specs.Prelude.{◌≡◌, ◌*◌, ◌^◌, ◌≤◌, pos, ◌*ℤ◌, ◌≤ℤ◌};
-ghost use Rattle.units.specs.Quantities.{length_of};
-ghost use Rattle.blocks.specs.Measures.{whole_factor, whole_angle, length_in, factor_in, angle_in};
+ghost use Rattle.std.specs.Prelude.{◌≡◌, ◌*◌, ◌^◌, ◌<◌, ◌≤◌, ◌-◌, pos, ◌*ℤ◌, ◌≤ℤ◌, FitsSigned};
+ghost use Rattle.std.specs.Int.{w64};
+ghost use Rattle.std.specs.Option.{SomeIff};
+ghost use Rattle.blocks.specs.Measures.{parts_of, most_in, units_in, whole_factor, whole_angle, length_in, factor_in, angle_in};
 
 use reader::types::Number;
 use units::quantity::{Angle, Factor, Length};
@@ -15,64 +16,32 @@ const FACTOR_DECIMALS: usize = 5;
 
 const ANGLE_DECIMALS: usize = 4;
 
+// Units in a ten-thousandth of an inch.
+const INCH_UNITS: i64 = 254;
+
 fn power(k: usize) -> i64
     requires { k ≤ 5 }
     ensures { result ≡ pos (10 ^ k) }
 {
-    match k {
-        0 => 1,
-        1 => 10,
-        2 => 100,
-        3 => 1000,
-        4 => 10000,
-        _ => 100000,
-    }
+    const POWERS: [i64; 6] = [1, 10, 100, 1000, 10_000, 100_000];
+    POWERS[k]
 }
 
-// Units in an inch over a power of ten: 10^k ten-thousandths of an inch.
-fn inch_power(k: usize) -> i64
-    requires { k ≤ 4 }
-    ensures { result ≡ pos (254 * 10 ^ k) }
+// How many parts a number is, where its last counted decimal has `each`: none with decimals beyond, or beyond 64 bits.
+fn parts(n: Number, decimals: usize, each: i64) -> Option<i64>
+    requires { (decimals ≤ 5) × (pos 1 ≤ℤ each) × (each ≤ℤ pos 254) }
+    ensures { SomeIff result ((n.decimals ≤ decimals) × FitsSigned w64 (parts_of n decimals each)) (parts_of n decimals each) }
 {
-    match k {
-        0 => 254,
-        1 => 2_540,
-        2 => 25_400,
-        3 => 254_000,
-        _ => 2_540_000,
-    }
-}
-
-// A value out of range stays so when it is multiplied.
-fn product_length(value: i64, by: i64) -> Option<Length>
-    requires { (pos 1 ≤ℤ by) × (by ≤ℤ pos 100000000) }
-    ensures { result ≡ length_of (value *ℤ by) }
-{
-    if value.unsigned_abs() > Length::MOST {
+    if n.decimals > decimals {
         return None;
     }
-    Length::new(value * by)
+    n.value.checked_mul(each * power(decimals - n.decimals))
 }
 
 fn whole_factor(parts: i64) -> Option<Factor>
     ensures { result ≡ whole_factor parts }
 {
-    if parts < 0 {
-        return None;
-    }
-    if parts > Factor::MOST as i64 {
-        return None;
-    }
-    Factor::new(parts as u32)
-}
-
-fn product_factor(value: i64, by: i64) -> Option<Factor>
-    ensures { result ≡ whole_factor (value *ℤ by) }
-{
-    match value.checked_mul(by) {
-        Some(parts) => whole_factor(parts),
-        None => None,
-    }
+    u32::try_from(parts).ok().and_then(Factor::new)
 }
 
 // A full turn more where it is below 0.
@@ -80,24 +49,20 @@ fn whole_angle(ticks: i64) -> Option<Angle>
     ensures { result ≡ whole_angle ticks }
 {
     let full = Angle::FULL as i64;
-    if ticks >= full {
-        return None;
-    }
-    if ticks >= 0 {
-        return Angle::new(ticks as u32);
-    }
     if ticks <= -full {
         return None;
     }
-    Angle::new((ticks + full) as u32)
+    let turned = if ticks < 0 { ticks + full } else { ticks };
+    u32::try_from(turned).ok().and_then(Angle::new)
 }
 
-fn product_angle(value: i64, by: i64) -> Option<Angle>
-    ensures { result ≡ whole_angle (value *ℤ by) }
+fn units(inch: bool, n: Number) -> Option<i64>
+    ensures { SomeIff result ((n.decimals ≤ most_in inch) × FitsSigned w64 (units_in inch n)) (units_in inch n) }
 {
-    match value.checked_mul(by) {
-        Some(ticks) => whole_angle(ticks),
-        None => None,
+    if inch {
+        parts(n, INCH_DECIMALS, INCH_UNITS)
+    } else {
+        parts(n, MILLIMETRE_DECIMALS, 1)
     }
 }
 
@@ -105,34 +70,19 @@ fn product_angle(value: i64, by: i64) -> Option<Angle>
 pub fn length(inch: bool, n: Number) -> Option<Length>
     ensures { result ≡ length_in inch n }
 {
-    if inch {
-        if n.decimals > INCH_DECIMALS {
-            return None;
-        }
-        return product_length(n.value, inch_power(INCH_DECIMALS - n.decimals));
-    }
-    if n.decimals > MILLIMETRE_DECIMALS {
-        return None;
-    }
-    product_length(n.value, power(MILLIMETRE_DECIMALS - n.decimals))
+    units(inch, n).and_then(Length::new)
 }
 
 /// A factor in hundred-thousandths.
 pub fn factor(n: Number) -> Option<Factor>
     ensures { result ≡ factor_in n }
 {
-    if n.decimals > FACTOR_DECIMALS {
-        return None;
-    }
-    product_factor(n.value, power(FACTOR_DECIMALS - n.decimals))
+    parts(n, FACTOR_DECIMALS, 1).and_then(whole_factor)
 }
 
 /// An angle in ticks.
 pub fn angle(n: Number) -> Option<Angle>
     ensures { result ≡ angle_in n }
 {
-    if n.decimals > ANGLE_DECIMALS {
-        return None;
-    }
-    product_angle(n.value, power(ANGLE_DECIMALS - n.decimals))
+    parts(n, ANGLE_DECIMALS, 1).and_then(whole_angle)
 }

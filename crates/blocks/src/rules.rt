@@ -1,14 +1,15 @@
 // The rules over a whole block, 6, 7 and 8, and what a right block says.
-ghost use Rattle.std.specs.Prelude.{◌≡◌, None};
-ghost use Rattle.blocks.specs.Rules.{misplaced_in, unfit_with, unfit_frame, unfit_by, unfit_in, inch_under, measure_frame, measure_under, bad_axis, bad_rpl, lesser, place_if, out_of_range_in};
-ghost use Rattle.blocks.specs.Typed.{length_at, factor_at, or_zero, angle_at, lengths as lengths_of, factors as factors_of, named as named_of, step_of, change_by, made_by, made_under, ruled, judged_in, lacking_at, lacking_in};
+ghost use Rattle.std.specs.Prelude.{◌≡◌, None, Bool, Option, [], ◌∷◌};
+ghost use Rattle.blocks.specs.Rules.{misplaced_in, unfit_with, unfit_by, unfit_in, inch_under, measure_by, measure_under, bad_axis, bad_rpl, lesser, place_if, out_of_range_in, Tells};
+ghost use Rattle.reader.specs.declared.types.Number.{Number as Numbers};
+ghost use Rattle.blocks.specs.declared.gathered.Measured.{Measured as Words};
+ghost use Rattle.blocks.specs.Typed.{length_at, factor_at, angle_at, each, lengths as lengths_of, step_of, change_by, made_by, made_under, ruled, judged_in, lacking_in};
 
-use crate::gathered::{
-    Axes, Gathered, Instruction, Measure, Measured, Order, Placed, Slots, StepKind,
-};
+use crate::gathered::{Gathered, Instruction, Measure, Measured, Order, Placed, Slots, StepKind};
 use crate::measures::{angle, factor, length};
 use crate::types::{Block, FrameChange, FrameStep, LengthUnit, Ordinary};
 use reader::types::Number;
+use units::axis::ByAxis;
 use units::fault::Fault;
 use units::quantity::{Angle, Factor, Length};
 
@@ -38,18 +39,7 @@ fn unfit(by: Instruction, axes: bool, rpl: bool) -> bool
             kind: StepKind::Turn,
             additive,
         } => unfit_with(additive, rpl, axes),
-        Instruction::Frame {
-            kind: StepKind::Offset,
-            additive,
-        } => unfit_with(additive, axes, rpl),
-        Instruction::Frame {
-            kind: StepKind::Scale,
-            additive,
-        } => unfit_with(additive, axes, rpl),
-        Instruction::Frame {
-            kind: StepKind::Mirror,
-            additive,
-        } => unfit_with(additive, axes, rpl),
+        Instruction::Frame { additive, .. } => unfit_with(additive, axes, rpl),
         Instruction::Limit(_) => unfit_with(true, axes, rpl),
     }
 }
@@ -58,17 +48,8 @@ fn unfit_place(o: &Order, rpl: Option<Measured>) -> Option<usize>
     ensures { result ≡ unfit_in o.now rpl }
 {
     match o.instruction {
-        Some(i) => {
-            if unfit(i.by, o.axis.is_some(), rpl.is_some()) {
-                Some(i.place)
-            } else {
-                None
-            }
-        }
-        None => match rpl {
-            Some(m) => Some(m.place),
-            None => None,
-        },
+        Some(i) => unfit(i.by, o.axis.is_some(), rpl.is_some()).then_some(i.place),
+        None => rpl.map(|word| word.place),
     }
 }
 
@@ -76,38 +57,31 @@ fn unfit_place(o: &Order, rpl: Option<Measured>) -> Option<usize>
 fn in_inches(inch: bool, unit: Option<LengthUnit>) -> bool
     ensures { result ≡ inch_under inch unit }
 {
-    match unit {
-        Some(LengthUnit::Inch) => true,
-        Some(LengthUnit::Millimetre) => false,
-        None => inch,
-    }
+    unit.map_or(inch, |unit| unit == LengthUnit::Inch)
 }
 
-// What the numbers of the block are.
-fn measure(instruction: Option<Placed>, inch: bool) -> Measure
-    ensures { result ≡ measure_under instruction inch }
+// What the numbers of a block with an instruction are.
+fn measure(by: Instruction, inch: bool) -> Measure
+    ensures { result ≡ measure_by by inch }
 {
-    match instruction {
-        Some(i) => match i.by {
-            Instruction::Frame {
-                kind: StepKind::Offset,
-                ..
-            } => Measure::Length { inch },
-            Instruction::Frame {
-                kind: StepKind::Turn,
-                ..
-            } => Measure::Angle,
-            Instruction::Frame {
-                kind: StepKind::Scale,
-                ..
-            } => Measure::Factor,
-            Instruction::Frame {
-                kind: StepKind::Mirror,
-                ..
-            } => Measure::Any,
-            Instruction::Limit(_) => Measure::Length { inch },
-        },
-        None => Measure::Length { inch },
+    match by {
+        Instruction::Frame {
+            kind: StepKind::Turn,
+            ..
+        } => Measure::Angle,
+        Instruction::Frame {
+            kind: StepKind::Scale,
+            ..
+        } => Measure::Factor,
+        Instruction::Frame {
+            kind: StepKind::Mirror,
+            ..
+        } => Measure::Any,
+        Instruction::Frame {
+            kind: StepKind::Offset,
+            ..
+        }
+        | Instruction::Limit(_) => Measure::Length { inch },
     }
 }
 
@@ -117,8 +91,7 @@ fn bad_axis(m: Measure, n: Number) -> bool
     match m {
         Measure::Length { inch } => length(inch, n).is_none(),
         Measure::Factor => factor(n).is_none(),
-        Measure::Angle => false,
-        Measure::Any => false,
+        Measure::Angle | Measure::Any => false,
     }
 }
 
@@ -126,125 +99,71 @@ fn bad_rpl(m: Measure, n: Number) -> bool
     ensures { result ≡ bad_rpl m n }
 {
     match m {
-        Measure::Length { .. } => false,
-        Measure::Factor => false,
         Measure::Angle => angle(n).is_none(),
-        Measure::Any => false,
+        _ => false,
     }
 }
 
 fn lesser_place(a: Option<usize>, b: Option<usize>) -> Option<usize>
     ensures { result ≡ lesser a b }
 {
-    match a {
-        Some(p) => match b {
-            Some(q) => {
-                if q < p {
-                    return Some(q);
-                }
-                Some(p)
-            }
-            None => Some(p),
-        },
-        None => b,
+    match (a, b) {
+        (Some(p), Some(q)) => Some(p.min(q)),
+        _ => a.or(b),
     }
 }
 
-fn bad_axis_place(m: Measure, word: Option<Measured>) -> Option<usize>
-    ensures { result ≡ place_if (bad_axis m) word }
+// Where a word's number is bad.
+fn place_where<F: FnOnce(Number) -> bool>(word: Option<Measured>, bad: F) -> Option<usize>
+    requires { F.IsAlwaysCallable bad }
+    ensures { (test : Numbers → Bool) → Tells (F.post bad) test → result ≡ place_if test word }
 {
     match word {
-        Some(w) => {
-            if bad_axis(m, w.number) {
-                return Some(w.place);
-            }
-            None
-        }
+        Some(w) => bad(w.number).then_some(w.place),
         None => None,
     }
 }
 
-fn bad_rpl_place(m: Measure, word: Option<Measured>) -> Option<usize>
-    ensures { result ≡ place_if (bad_rpl m) word }
+// What is made of each axis's word, in the order X, Y, Z.
+fn each<V, F: Fn(Option<Measured>) -> V>(words: &ByAxis<Option<Measured>>, make: F) -> [V; 3]
+    requires { F.IsAlwaysCallable make }
+    ensures { (x y z : V) × F.post make words.now.x x × F.post make words.now.y y × F.post make words.now.z z × (result ≡ x ∷ y ∷ z ∷ []) }
 {
-    match word {
-        Some(w) => {
-            if bad_rpl(m, w.number) {
-                return Some(w.place);
-            }
-            None
-        }
-        None => None,
-    }
+    [make(words.x), make(words.y), make(words.z)]
 }
 
 // 8: the leftmost number out of range.
 fn out_of_range(m: Measure, s: &Slots) -> Option<usize>
     ensures { result ≡ out_of_range_in m s.now }
 {
-    let x = bad_axis_place(m, s.axes.x);
-    let y = bad_axis_place(m, s.axes.y);
-    let z = bad_axis_place(m, s.axes.z);
-    let rpl = bad_rpl_place(m, s.rpl);
+    let [x, y, z] = each(&s.axes, |w| place_where(w, |n| bad_axis(m, n)));
+    let rpl = place_where(s.rpl, |n| bad_rpl(m, n));
     lesser_place(x, lesser_place(y, lesser_place(z, rpl)))
 }
 
 fn length_at(inch: bool, word: Option<Measured>) -> Option<Length>
     ensures { result ≡ length_at inch word }
 {
-    match word {
-        Some(m) => length(inch, m.number),
-        None => None,
-    }
+    word.and_then(|w| length(inch, w.number))
 }
 
 fn factor_at(word: Option<Measured>) -> Option<Factor>
     ensures { result ≡ factor_at word }
 {
-    match word {
-        Some(m) => factor(m.number),
-        None => None,
-    }
-}
-
-fn or_zero(angle: Option<Angle>) -> Angle
-    ensures { result ≡ or_zero angle }
-{
-    if let Some(a) = angle {
-        return a;
-    }
-    Angle { ticks: 0 }
+    word.and_then(|w| factor(w.number))
 }
 
 fn angle_at(word: Option<Measured>) -> Angle
     ensures { result ≡ angle_at word }
 {
-    match word {
-        Some(m) => or_zero(angle(m.number)),
-        None => or_zero(None),
-    }
+    word.and_then(|w| angle(w.number))
+        .unwrap_or(Angle { ticks: 0 })
 }
 
-fn lengths(inch: bool, a: &Axes) -> [Option<Length>; 3]
+fn lengths(inch: bool, a: &ByAxis<Option<Measured>>) -> [Option<Length>; 3]
     ensures { result ≡ lengths_of inch a.now }
 {
-    [
-        length_at(inch, a.x),
-        length_at(inch, a.y),
-        length_at(inch, a.z),
-    ]
-}
-
-fn factors(a: &Axes) -> [Option<Factor>; 3]
-    ensures { result ≡ factors_of a.now }
-{
-    [factor_at(a.x), factor_at(a.y), factor_at(a.z)]
-}
-
-fn named(a: &Axes) -> [bool; 3]
-    ensures { result ≡ named_of a.now }
-{
-    [a.x.is_some(), a.y.is_some(), a.z.is_some()]
+    each(a, |w| length_at(inch, w))
 }
 
 fn step(kind: StepKind, inch: bool, s: &Slots) -> FrameStep
@@ -253,8 +172,8 @@ fn step(kind: StepKind, inch: bool, s: &Slots) -> FrameStep
     match kind {
         StepKind::Offset => FrameStep::Offset(lengths(inch, &s.axes)),
         StepKind::Turn => FrameStep::Turn(angle_at(s.rpl)),
-        StepKind::Scale => FrameStep::Scale(factors(&s.axes)),
-        StepKind::Mirror => FrameStep::Mirror(named(&s.axes)),
+        StepKind::Scale => FrameStep::Scale(each(&s.axes, factor_at)),
+        StepKind::Mirror => FrameStep::Mirror(each(&s.axes, |w| w.is_some())),
     }
 }
 
@@ -291,27 +210,13 @@ fn instructed(i: Placed, inch: bool, g: &Gathered) -> Block
     }
 }
 
-// Where a word's number made no length.
-fn lacking(word: Option<Measured>, value: Option<Length>) -> Option<usize>
-    ensures { result ≡ lacking_at word value }
-{
-    match word {
-        Some(w) => {
-            if value.is_none() {
-                return Some(w.place);
-            }
-            None
-        }
-        None => None,
-    }
-}
-
-fn lacking_place(a: &Axes, values: [Option<Length>; 3]) -> Option<usize>
+// The leftmost word whose number made no length.
+fn lacking_place(a: &ByAxis<Option<Measured>>, values: [Option<Length>; 3]) -> Option<usize>
     ensures { result ≡ lacking_in a.now values }
 {
-    let x = lacking(a.x, values[0]);
-    let y = lacking(a.y, values[1]);
-    let z = lacking(a.z, values[2]);
+    let x = place_where(a.x, |_| values[0].is_none());
+    let y = place_where(a.y, |_| values[1].is_none());
+    let z = place_where(a.z, |_| values[2].is_none());
     lesser_place(x, lesser_place(y, z))
 }
 
@@ -343,13 +248,11 @@ pub fn judge(inch: bool, g: &Gathered) -> Result<Block, Fault>
     if let Some(place) = unfit_place(&g.order, g.slots.rpl) {
         return Err(Fault::Unfit { place });
     }
-    match g.order.instruction {
-        Some(i) => {
-            if let Some(place) = out_of_range(measure(g.order.instruction, inches), &g.slots) {
-                return Err(Fault::Range { place });
-            }
-            Ok(instructed(i, inches, g))
-        }
-        None => ordinary(inches, g),
+    let Some(i) = g.order.instruction else {
+        return ordinary(inches, g);
+    };
+    if let Some(place) = out_of_range(measure(i.by, inches), &g.slots) {
+        return Err(Fault::Range { place });
     }
+    Ok(instructed(i, inches, g))
 }

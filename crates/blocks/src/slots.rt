@@ -1,47 +1,14 @@
 // One slot for each address and for each G group.
 ghost use Rattle.std.specs.Prelude.{◌≡◌, ◌<◌, false};
-ghost use Rattle.blocks.specs.Slots.{taken_name, put_name, taken_group, put_group, taken_axis, put_axis, put_n, put_passed, taken_passed, put_m, taken as taken_in, put as put_in, empty_slots};
+ghost use Rattle.blocks.specs.Slots.{taken_group, put_group, put_axis, put_m, taken as taken_in, put as put_in, empty_slots};
 
-use crate::gathered::{Axes, Groups, Measured, Ms, Names, Others, Slots};
-use crate::types::Selections;
+use crate::gathered::{Groups, Measured, Ms, Slots};
 use reader::functions::{GFunction, MFunction};
-use reader::types::{FrameName, Item, Passed, Said};
-use units::axis::Axis;
+use reader::types::{Item, Said};
+use units::axis::{Axis, ByAxis};
 
 /// How many M words a block may have.
 const M_WORDS: usize = 5;
-
-impl Names {
-    fn taken(&self, name: FrameName) -> bool
-        ensures { result ≡ taken_name self.now name }
-    {
-        match name {
-            FrameName::Trans => self.trans,
-            FrameName::Rot => self.rot,
-            FrameName::Scale => self.scale,
-            FrameName::Mirror => self.mirror,
-            FrameName::Atrans => self.atrans,
-            FrameName::Arot => self.arot,
-            FrameName::Ascale => self.ascale,
-            FrameName::Amirror => self.amirror,
-        }
-    }
-
-    fn put(&mut self, name: FrameName)
-        ensures { self.new ≡ put_name self.old name }
-    {
-        match name {
-            FrameName::Trans => self.trans = true,
-            FrameName::Rot => self.rot = true,
-            FrameName::Scale => self.scale = true,
-            FrameName::Mirror => self.mirror = true,
-            FrameName::Atrans => self.atrans = true,
-            FrameName::Arot => self.arot = true,
-            FrameName::Ascale => self.ascale = true,
-            FrameName::Amirror => self.amirror = true,
-        }
-    }
-}
 
 impl Groups {
     fn taken(&self, function: GFunction) -> bool
@@ -73,55 +40,13 @@ impl Groups {
     }
 }
 
-impl Axes {
-    fn taken(&self, axis: Axis) -> bool
-        ensures { result ≡ taken_axis self.now axis }
-    {
-        match axis {
-            Axis::X => self.x.is_some(),
-            Axis::Y => self.y.is_some(),
-            Axis::Z => self.z.is_some(),
-        }
-    }
-
-    fn put(&mut self, axis: Axis, measured: Measured)
-        ensures { self.new ≡ put_axis self.old axis measured }
-    {
-        match axis {
-            Axis::X => self.x = Some(measured),
-            Axis::Y => self.y = Some(measured),
-            Axis::Z => self.z = Some(measured),
-        }
-    }
-}
-
-impl Others {
-    fn taken(&self, address: Passed) -> bool
-        ensures { result ≡ taken_passed self.now address }
-    {
-        match address {
-            Passed::F => self.f,
-            Passed::S => self.s,
-            Passed::T => self.t,
-            Passed::D => self.d,
-        }
-    }
-
-    fn put(&mut self, address: Passed)
-        ensures { self.new ≡ put_passed self.old address }
-    {
-        match address {
-            Passed::F => self.f = true,
-            Passed::S => self.s = true,
-            Passed::T => self.t = true,
-            Passed::D => self.d = true,
-        }
-    }
-
-    fn put_n(&mut self)
-        ensures { self.new ≡ put_n self.old }
-    {
-        self.n = true;
+fn put_axis(axes: &mut ByAxis<Option<Measured>>, axis: Axis, measured: Measured)
+    ensures { axes.new ≡ put_axis axes.old axis measured }
+{
+    match axis {
+        Axis::X => axes.x = Some(measured),
+        Axis::Y => axes.y = Some(measured),
+        Axis::Z => axes.z = Some(measured),
     }
 }
 
@@ -131,9 +56,8 @@ impl Ms {
         ensures { self.new ≡ put_m self.old function }
     {
         self.count += 1;
-        match function {
-            MFunction::End => self.ends = true,
-            MFunction::Other => {}
+        if function == MFunction::End {
+            self.ends = true;
         }
     }
 }
@@ -142,46 +66,7 @@ impl Slots {
     pub fn empty() -> Slots
         ensures { result ≡ empty_slots }
     {
-        Slots {
-            names: Names {
-                trans: false,
-                rot: false,
-                scale: false,
-                mirror: false,
-                atrans: false,
-                arot: false,
-                ascale: false,
-                amirror: false,
-            },
-            groups: Groups {
-                selections: Selections {
-                    motion: None,
-                    plane: None,
-                    settable: None,
-                    unit: None,
-                    distance: None,
-                },
-                machine: None,
-                limit: false,
-            },
-            axes: Axes {
-                x: None,
-                y: None,
-                z: None,
-            },
-            others: Others {
-                n: false,
-                f: false,
-                s: false,
-                t: false,
-                d: false,
-            },
-            ms: Ms {
-                count: 0,
-                ends: false,
-            },
-            rpl: None,
-        }
+        Slots::default()
     }
 
     /// Does an earlier word stand in this one's way?
@@ -189,13 +74,13 @@ impl Slots {
         ensures { result ≡ taken_in self.now says }
     {
         match says {
-            Said::Name(name) => self.names.taken(name),
-            Said::Axis(axis, _) => self.axes.taken(axis),
+            Said::Name(name) => self.names[name as usize],
+            Said::Axis(axis, _) => self.axes.on(axis).is_some(),
             Said::Rpl(_) => self.rpl.is_some(),
             Said::G(function) => self.groups.taken(function),
             Said::M(_) => self.ms.count >= M_WORDS,
-            Said::N => self.others.n,
-            Said::Passed(address) => self.others.taken(address),
+            Said::N => self.n,
+            Said::Passed(address) => self.passed[address as usize],
         }
     }
 
@@ -205,13 +90,13 @@ impl Slots {
     {
         let place = item.place;
         match item.says {
-            Said::Name(name) => self.names.put(name),
-            Said::Axis(axis, number) => self.axes.put(axis, Measured { number, place }),
+            Said::Name(name) => self.names[name as usize] = true,
+            Said::Axis(axis, number) => put_axis(&mut self.axes, axis, Measured { number, place }),
             Said::Rpl(number) => self.rpl = Some(Measured { number, place }),
             Said::G(function) => self.groups.put(function, place),
             Said::M(function) => self.ms.put(function),
-            Said::N => self.others.put_n(),
-            Said::Passed(address) => self.others.put(address),
+            Said::N => self.n = true,
+            Said::Passed(address) => self.passed[address as usize] = true,
         }
     }
 }

@@ -4,7 +4,7 @@ use units::axis::{Plane, Side};
 use units::quantity::{Angle, Factor, Length};
 
 /// The modal functions that a block selects, by group.
-#[derive(Clone, Copy)]
+#[derive(Clone, Copy, Default)]
 pub struct Selections {
     pub motion: Option<Motion>,
     pub plane: Option<Plane>,

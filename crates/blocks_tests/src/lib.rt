@@ -2,49 +2,27 @@
 #![tactic(auto)]
 
 use blocks::block::typed_block;
-use blocks::types::{Block, FrameChange, FrameStep};
+use blocks::types::{Block, FrameChange};
 
-/// The number and the place of a block's decline; 0 and 0 where it is right.
-pub fn told(bytes: &[u8]) -> (u8, usize) {
-    match typed_block(bytes, false) {
-        Ok(_) => (0, 0),
-        Err(fault) => {
-            let d = fault.decline();
-            (d.number, d.place)
-        }
-    }
+/// The number and the place of a block's decline; none where it is right.
+pub fn told(bytes: &[u8]) -> Option<(u8, usize)> {
+    let decline = typed_block(bytes, false).err()?.decline();
+    Some((decline.number, decline.place))
 }
 
-/// The X word of an ordinary block in units; -1 where there is none, -2 where the block is another.
-pub fn x_units(bytes: &[u8], inch: bool) -> i64 {
+/// The X word of an ordinary block in units; none where it has none, or the block is another.
+pub fn x_units(bytes: &[u8], inch: bool) -> Option<i64> {
     match typed_block(bytes, inch) {
-        Ok(Block::Ordinary(o)) => {
-            let x = o.words[0];
-            match x {
-                Some(l) => l.units,
-                None => -1,
-            }
-        }
-        _ => -2,
+        Ok(Block::Ordinary(o)) => o.words[0].map(|x| x.units),
+        _ => None,
     }
 }
 
-fn ticks(step: FrameStep) -> u32 {
-    match step {
-        FrameStep::Turn(a) => a.ticks,
-        _ => 0,
-    }
-}
-
-/// What a frame instruction does (e: empties, r: replaces, a: appends, n: the block is another), the ticks of its turn, its place.
-pub fn frame(bytes: &[u8]) -> (char, u32, usize) {
+/// What a frame instruction does, and its place; none where the block is another.
+pub fn frame(bytes: &[u8]) -> Option<(FrameChange, usize)> {
     match typed_block(bytes, false) {
-        Ok(Block::Frame { change, place }) => match change {
-            FrameChange::Empty => ('e', 0, place),
-            FrameChange::Replace(step) => ('r', ticks(step), place),
-            FrameChange::Append(step) => ('a', ticks(step), place),
-        },
-        _ => ('n', 0, 0),
+        Ok(Block::Frame { change, place }) => Some((change, place)),
+        _ => None,
     }
 }
 
@@ -52,40 +30,43 @@ pub fn frame(bytes: &[u8]) -> (char, u32, usize) {
 mod tests {
     use crate::{frame, told, x_units};
     use blocks::block::typed_block;
-    use blocks::types::{Block, Distance, LengthUnit, Motion, Ordinary, Selections, Settable};
+    use blocks::types::{
+        Block, Distance, FrameChange, FrameStep, LengthUnit, Motion, Ordinary, Selections, Settable,
+    };
     use std::test::Fail;
     use units::axis::{Plane, Side};
+    use units::quantity::Angle;
 
     #[test]
     fn words(rt: HostRuntime) {
-        assert!(rt; told(b"") == (0, 0));
-        assert!(rt; told(b"X1#") == (2, 2));
-        assert!(rt; told(b"G0 G1 #") == (5, 3));
-        assert!(rt; told(b"Q #") == (4, 0));
-        assert!(rt; told(b"TRANS1") == (3, 5));
-        assert!(rt; told(b"RPL30") == (3, 3));
-        assert!(rt; told(b"X12345678901") == (3, 11));
-        assert!(rt; told(b"G00000002") == (4, 0));
-        assert!(rt; told(b"G25 G26 X1") == (5, 4));
-        assert!(rt; told(b"M1 M2 M3 M4 M5 M6") == (5, 15));
+        assert!(rt; told(b"") == None);
+        assert!(rt; told(b"X1#") == Some((2, 2)));
+        assert!(rt; told(b"G0 G1 #") == Some((5, 3)));
+        assert!(rt; told(b"Q #") == Some((4, 0)));
+        assert!(rt; told(b"TRANS1") == Some((3, 5)));
+        assert!(rt; told(b"RPL30") == Some((3, 3)));
+        assert!(rt; told(b"X12345678901") == Some((3, 11)));
+        assert!(rt; told(b"G00000002") == Some((4, 0)));
+        assert!(rt; told(b"G25 G26 X1") == Some((5, 4)));
+        assert!(rt; told(b"M1 M2 M3 M4 M5 M6") == Some((5, 15)));
     }
 
     #[test]
     fn rules(rt: HostRuntime) {
-        assert!(rt; told(b"G90 N5 TRANS X1") == (6, 0));
-        assert!(rt; told(b"TRANS X1 M2") == (6, 9));
-        assert!(rt; told(b"RPL=3 TRANS") == (7, 6));
-        assert!(rt; told(b"G1 RPL=3") == (7, 3));
-        assert!(rt; told(b"Y1 X1.000000 Z1.000000") == (8, 3));
-        assert!(rt; told(b"ROT RPL=360") == (8, 4));
+        assert!(rt; told(b"G90 N5 TRANS X1") == Some((6, 0)));
+        assert!(rt; told(b"TRANS X1 M2") == Some((6, 9)));
+        assert!(rt; told(b"RPL=3 TRANS") == Some((7, 6)));
+        assert!(rt; told(b"G1 RPL=3") == Some((7, 3)));
+        assert!(rt; told(b"Y1 X1.000000 Z1.000000") == Some((8, 3)));
+        assert!(rt; told(b"ROT RPL=360") == Some((8, 4)));
     }
 
     #[test]
     fn lengths(rt: HostRuntime) {
-        assert!(rt; x_units(b"x9999.99999", false) == 999_999_999);
-        assert!(rt; x_units(b"X-.5", false) == -50_000);
-        assert!(rt; x_units(b"X393.7007", true) == 999_999_778);
-        assert!(rt; x_units(b"X1 G71", true) == 100_000);
+        assert!(rt; x_units(b"x9999.99999", false) == Some(999_999_999));
+        assert!(rt; x_units(b"X-.5", false) == Some(-50_000));
+        assert!(rt; x_units(b"X393.7007", true) == Some(999_999_778));
+        assert!(rt; x_units(b"X1 G71", true) == Some(100_000));
     }
 
     #[test]
@@ -117,27 +98,37 @@ mod tests {
 
     #[test]
     fn instructions(rt: HostRuntime) -> Result<(), Fail> {
-        assert!(rt; frame(b"N1 ROT") == ('e', 0, 3));
-        assert!(rt; frame(b"RPL=-359.9999 ROT") == ('r', 1, 14));
-        assert!(rt; frame(b"AROT RPL=90") == ('a', 900_000, 0));
+        assert!(rt; matches!(frame(b"N1 ROT"), Some((FrameChange::Empty, 3))));
+        assert!(rt;
+            matches!(
+                frame(b"RPL=-359.9999 ROT"),
+                Some((
+                    FrameChange::Replace(FrameStep::Turn(Angle { ticks: 1 })),
+                    14
+                )),
+            )
+        );
+        assert!(rt;
+            matches!(
+                frame(b"AROT RPL=90"),
+                Some((
+                    FrameChange::Append(FrameStep::Turn(Angle { ticks: 900_000 })),
+                    0
+                )),
+            )
+        );
         match typed_block(b"G26 Z-2", false) {
             Ok(
                 Block::Limit {
                     side: Side::Upper,
-                    values,
+                    values: [_, _, Some(z)],
                     place,
                 },
             ) => {
-                let z = values[2];
-                match z {
-                    Some(l) => {
-                        assert!(rt; l.units == -200_000 && place == 0);
-                        Ok(())
-                    },
-                    None => Err(Fail::new("a Z word")),
-                }
+                assert!(rt; z.units == -200_000 && place == 0);
+                Ok(())
             }
-            _ => Err(Fail::new("upper limits")),
+            _ => Err(Fail::new("upper limits with a Z word")),
         }
     }
 }

@@ -1,10 +1,11 @@
-use Rattle.std.proofs.Common.{pos, ◌+ℤ◌, nat_abs, arith, w64, to_z, of_z}
+use Rattle.std.proofs.Common.{arith}
 use Rattle.std.proofs.lemmas.Int.{ints}
-use Rattle.blocks.proofs.Measured.{as_angle, as_angle_below}
+use Rattle.units.specs.Quantities.{angle_of}
+use Rattle.blocks.proofs.Measured.{unsigned_is, angle_far, angle_unsigned, angle_turned}
 use Rattle.blocks.proofs.measures.whole_angle.Goals as goal
-
-pub returns-then-ticks-ge0 : goal.returns-then-ticks-ge0
-returns-then-ticks-ge0 c = as_angle (nat_abs (to_z w64 (of_z w64 c.args.ticks))) c.args.ticks c.new.result c.new.ensures (omega (arith, ints))
+use Rattle.blocks.proofs.measures.whole_angle.Goals.{then-ticks-lt0, else-ticks-lt0}
 
 pub returns : goal.returns
-returns c = as_angle_below (nat_abs (to_z w64 (of_z w64 (to_z w64 (of_z w64 c.args.ticks) +ℤ pos 3600000)))) c.args.ticks c.new-2.result c.new-2.ensures (omega (arith, ints)) (omega (arith, ints)) (omega (arith, ints))
+returns c =
+    let made = unsigned_is angle_of angle_far _ _ _ c.try_from.ensures (rw c.ok.ensures.value at c.and_then.ensures) in
+    elim c.if-ticks-lt0.branch [ then-ticks-lt0 w ↦ angle_turned c.args.ticks _ _ _ w.turned-is made (omega (arith, ints)) (omega (arith, ints)) (omega (arith, ints)) | else-ticks-lt0 w ↦ angle_unsigned c.args.ticks _ _ _ w.turned-is made (omega (arith, ints)) (omega (arith, ints)) ]
