@@ -1,7 +1,7 @@
 // Pushing a point: each step, the tests after it, and the whole chain.
 ghost use Rattle.std.specs.Prelude.{◌≡◌, ℕ, ◌+◌, ◌<◌, ◌≤◌, Bool, true, false, cond, List, [], ◌∷◌, length, ℤ, IfOk};
 ghost use Rattle.chains.specs.Chains.{steps_of};
-ghost use Rattle.frames.specs.Pushing.{first_axis, too_far, too_wide, tested as passed, pushed, on_all, started};
+ghost use Rattle.frames.specs.Pushing.{first_axis, tested as passed, pushed, on_all, started};
 ghost use Rattle.frames.specs.Axes.{GivesAt, image_of};
 ghost use Rattle.frames.specs.Theorems.{Sound, Limited};
 
@@ -28,18 +28,6 @@ fn step_number(place: usize) -> u8
     place as u8 + 1
 }
 
-fn too_far(moved: bool, x: i64) -> bool
-    ensures { result ≡ too_far moved x }
-{
-    moved && x.unsigned_abs() > FAR
-}
-
-fn too_wide(tolerance: Tolerance, moved: bool, r: u64) -> bool
-    ensures { result ≡ too_wide tolerance.units moved r }
-{
-    moved && r > tolerance.units
-}
-
 /// The first axis of which the test is true.
 fn first_axis<F: Fn(usize) -> bool>(test: F) -> Option<Axis>
     requires { (a : ℕ) → a < 3 → F.pre test a }
@@ -59,14 +47,14 @@ impl Stepped {
         ensures { image_of result ≡ passed step self.moved tolerance.units self.image }
     {
         let Stepped { image, moved } = self;
-        if let Some(axis) = first_axis(|a| too_far(moved[a], image.at[a])) {
+        if let Some(axis) = first_axis(|a| moved[a] && image.at[a].unsigned_abs() > FAR) {
             return Err(Fault::Beyond {
                 place: 0,
                 axis,
                 step,
             });
         }
-        if let Some(axis) = first_axis(|a| too_wide(tolerance, moved[a], image.spread[a])) {
+        if let Some(axis) = first_axis(|a| moved[a] && image.spread[a] > tolerance.units) {
             return Err(Fault::Spread {
                 place: 0,
                 axis,
