@@ -1,61 +1,76 @@
 -- Loops over the three axes.
-use Rattle.std.proofs.Common.{◌≡◌, ℕ, zero, suc, ◌+◌, ◌<◌, Bool, true, false, cond, List, [], ◌∷◌, length, get_or, set, ℤ, Some, None, refl, ap, ◌∙◌, ap₂, add-one, arith}
-use Rattle.units.specs.declared.axis.Axis.{Axis}
+use Rattle.std.proofs.Common.{◌≡◌, ℕ, ◌+◌, ◌<◌, ◌≤◌, Bool, true, false, cond, ◌⊎◌, List, [], ◌∷◌, length, get_or, set, ℤ, pos, sym, refl, ap, ◌∙◌, ap₂, inl, inr, arith, length-set}
+use Rattle.std.proofs.lemmas.List.{get_or-set_same, get_or-set_other}
+use Rattle.std.proofs.lemmas.Bool.{false≢true}
+use borrow.Author.Count.{below_more}
 use Rattle.chains.specs.declared.step.Step.{Step}
 use Rattle.frames.specs.declared.image.Image.{Image}
-use Rattle.frames.specs.Pushing.{axis_at, first_axis, moved_at, moved_spread, through}
+use Rattle.frames.specs.Pushing.{coordinate, spread_of, new_at, new_spread, moved_at, moved_spread, through}
+use Rattle.frames.specs.Axes.{GivesAt, new_axis}
 
--- the places below i are written, each by f
-abbrev pub written : {A : Type 0} → ℕ → (ℕ → A) → List A → List A
-written zero f l = l
-written (suc i) f l = set (written i f l) i (f i)
+abbrev pub SameAt : Image → Image → ℕ → Type 0
+SameAt p q k = (coordinate q k ≡ coordinate p k) × (spread_of q k ≡ spread_of p k)
 
-pub written_more : {A : Type 0} (i : ℕ) (f : ℕ → A) (l q : List A) (v : A) → q ≡ written i f l → v ≡ f i → set q i v ≡ written (i + 1) f l
-written_more i f l q v e g = rw (add-one, e, g)
+abbrev pub MovedAt : List Bool → Step → Image → Image → ℕ → Type 0
+MovedAt m s p q k = (coordinate q k ≡ moved_at m s p k) × (spread_of q k ≡ moved_spread m s p k)
 
-pub written_three : {A : Type 0} (f : ℕ → A) (l : List A) → length l ≡ 3 → written 3 f l ≡ f 0 ∷ f 1 ∷ f 2 ∷ []
-written_three f [] e = absurd (omega arith)
-written_three f (x ∷ []) e = absurd (omega arith)
-written_three f (x ∷ y ∷ []) e = absurd (omega arith)
-written_three f (x ∷ y ∷ z ∷ []) e = refl
-written_three f (x ∷ y ∷ z ∷ w ∷ ws) e = absurd (omega arith)
+-- the moved axes of q below a are what calls gave, and the others are as in p
+pub record Filled (post : ℕ → ℤ × ℕ → Type 0) (m : List Bool) (p q : Image) (a : ℕ) : Type 0 where
+  pub done : (s : Step) → GivesAt post (new_axis s p) → (k : ℕ) → k < a → MovedAt m s p q k
+  pub same : (k : ℕ) → (a ≤ k) ⊎ (get_or m k false ≡ false) → SameAt p q k
+  pub long : length q.at ≡ 3
+  pub wide : length q.spread ≡ 3
 
--- a search in axis order
-pub first_at : (f : ℕ → Bool) (a : ℕ) → a < 3 → ((k : ℕ) → k < a → f k ≡ false) → f a ≡ true → Some (axis_at a) ≡ first_axis f
-first_at f zero h b e = rw e refl
-first_at f (suc zero) h b e = rw (b 0 (omega arith), e) refl
-first_at f (suc (suc zero)) h b e = rw (b 0 (omega arith), b 1 (omega arith), e) refl
-first_at f (suc (suc (suc a))) h b e = absurd (omega arith)
+abbrev put : Image → ℕ → ℤ → ℕ → Image
+put q a x r = record { at = set q.at a x; spread = set q.spread a r }
 
-pub first_found : (f : ℕ → Bool) (a : ℕ) (v : Axis) → v ≡ axis_at a → a < 3 → ((k : ℕ) → k < a → f k ≡ false) → f a ≡ true → Some v ≡ first_axis f
-first_found f a v w h b e = ap Some w ∙ first_at f a h b e
+put_other : (q : Image) (a : ℕ) (x : ℤ) (r k : ℕ) → (k ≡ a → ⊥) → SameAt q (put q a x r) k
+put_other q a x r k n = (get_or-set_other q.at a k x (pos 0) n, get_or-set_other q.spread a k r 0 n)
 
-pub first_none : (f : ℕ → Bool) → ((k : ℕ) → k < 3 → f k ≡ false) → None ≡ first_axis f
-first_none f b = rw (b 0 (omega arith), b 1 (omega arith), b 2 (omega arith)) refl
+module _ (post : ℕ → ℤ × ℕ → Type 0) (m : List Bool) (p q : Image) (a : ℕ) (l : a < 3) (f : Filled post m p q a) where
+  module _ (x : ℤ) (r : ℕ) (t : get_or m a false ≡ true) (h : post a (x, r)) where
+    put_done : (s : Step) → GivesAt post (new_axis s p) → (k : ℕ) → k < a + 1 → MovedAt m s p (put q a x r) k
+    put_done s g =
+        let here = g a (x, r) l h in
+        below_more (MovedAt m s p (put q a x r)) a
+        (λ k b. let o = put_other q a x r k (λ z. absurd (omega arith)) in let w = f.done s g k b in (o.0 ∙ w.0, o.1 ∙ w.1)) (
+          get_or-set_same q.at a x (pos 0) (omega arith) ∙ ap (λ (w : ℤ × ℕ). w.0) here ∙ sym (ap (λ (b : Bool). cond b (new_at s a p) (coordinate p a)) t),
+          get_or-set_same q.spread a r 0 (omega arith) ∙ ap (λ (w : ℤ × ℕ). w.1) here ∙ sym (ap (λ (b : Bool). cond b (new_spread s a p) (spread_of p a)) t),
+        )
 
-pub three_is : (m : List Bool) (s : Step) (p q : Image) (a : ℕ) → a ≡ 3 → length p.at ≡ 3 → length p.spread ≡ 3 →
-    q.at ≡ written a (moved_at m s p) p.at → q.spread ≡ written a (moved_spread m s p) p.spread → q ≡ through m s p
-three_is m s p q a n la ls ea es =
-    ap₂ (λ (x : List ℤ) (y : List ℕ). record { at = x; spread = y })
-    (ea ∙ ap (λ (k : ℕ). written k (moved_at m s p) p.at) n ∙ written_three (moved_at m s p) p.at la)
-    (es ∙ ap (λ (k : ℕ). written k (moved_spread m s p) p.spread) n ∙ written_three (moved_spread m s p) p.spread ls)
+    put_same : (k : ℕ) → (a + 1 ≤ k) ⊎ (get_or m k false ≡ false) → SameAt p (put q a x r) k
+    put_same k (inl b) = let o = put_other q a x r k (λ z. absurd (omega arith)) in let w = f.same k (inl (omega arith)) in (o.0 ∙ w.0, o.1 ∙ w.1)
+    put_same k (inr b) = let o = put_other q a x r k (λ z. false≢true (sym b ∙ ap (λ (j : ℕ). get_or m j false) z ∙ t)) in let w = f.same k (inr b) in (o.0 ∙ w.0, o.1 ∙ w.1)
 
-pub written_done : {A : Type 0} (f : ℕ → A) (l q : List A) (a : ℕ) → a ≡ 3 → length l ≡ 3 → q ≡ written a f l → q ≡ f 0 ∷ f 1 ∷ f 2 ∷ []
-written_done f l q a n e h = h ∙ ap (λ (k : ℕ). written k f l) n ∙ written_three f l e
+    pub filled_put : Filled post m p (put q a x r) (a + 1)
+    filled_put = record { done = put_done; same = put_same; long = length-set q.at a x ∙ f.long; wide = length-set q.spread a r ∙ f.wide }
 
--- a step that keeps spreads
-cond_same : (b : Bool) (x : ℕ) → x ≡ cond b x x
-cond_same true x = refl
-cond_same false x = refl
+  kept_done : get_or m a false ≡ false → (s : Step) → GivesAt post (new_axis s p) → (k : ℕ) → k < a + 1 → MovedAt m s p q k
+  kept_done t s g =
+      let w = f.same a (inr t) in
+      below_more (MovedAt m s p q) a (f.done s g) (
+        w.0 ∙ sym (ap (λ (b : Bool). cond b (new_at s a p) (coordinate p a)) t),
+        w.1 ∙ sym (ap (λ (b : Bool). cond b (new_spread s a p) (spread_of p a)) t),
+      )
 
-pub kept_three : (m : List Bool) (rs : List ℕ) → length rs ≡ 3 → rs ≡ cond (get_or m 0 false) (get_or rs 0 0) (get_or rs 0 0) ∷ cond (get_or m 1 false) (get_or rs 1 0) (get_or rs 1 0) ∷ cond (get_or m 2 false) (get_or rs 2 0) (get_or rs 2 0) ∷ []
-kept_three m [] e = absurd (omega arith)
-kept_three m (x ∷ []) e = absurd (omega arith)
-kept_three m (x ∷ y ∷ []) e = absurd (omega arith)
-kept_three m (x ∷ y ∷ z ∷ w ∷ ws) e = absurd (omega arith)
-kept_three m (x ∷ y ∷ z ∷ []) e = λ i. cond_same (get_or m 0 false) x i ∷ cond_same (get_or m 1 false) y i ∷ cond_same (get_or m 2 false) z i ∷ []
+  kept_same : (k : ℕ) → (a + 1 ≤ k) ⊎ (get_or m k false ≡ false) → SameAt p q k
+  kept_same k (inl b) = f.same k (inl (omega arith))
+  kept_same k (inr b) = f.same k (inr b)
 
-pub at_three : (m : List Bool) (s : Step) (p q : Image) (a : ℕ) → a ≡ 3 → length p.at ≡ 3 → q.at ≡ written a (moved_at m s p) p.at → q.spread ≡ (through m s p).spread → q ≡ through m s p
-at_three m s p q a n la ea es =
-    ap₂ (λ (x : List ℤ) (y : List ℕ). record { at = x; spread = y })
-    (ea ∙ ap (λ (k : ℕ). written k (moved_at m s p) p.at) n ∙ written_three (moved_at m s p) p.at la) es
+  pub filled_kept : get_or m a false ≡ false → Filled post m p q (a + 1)
+  filled_kept t = record { done = kept_done t; same = kept_same; long = f.long; wide = f.wide }
+
+-- three elements are the list
+from_three : {A : Type 0} (d : A) (l : List A) (x y z : A) → length l ≡ 3 → get_or l 0 d ≡ x → get_or l 1 d ≡ y → get_or l 2 d ≡ z → l ≡ x ∷ y ∷ z ∷ []
+from_three d [] x y z n e f g = absurd (omega arith)
+from_three d (u ∷ []) x y z n e f g = absurd (omega arith)
+from_three d (u ∷ v ∷ []) x y z n e f g = absurd (omega arith)
+from_three d (u ∷ v ∷ w ∷ []) x y z n e f g = λ i. e i ∷ f i ∷ g i ∷ []
+from_three d (u ∷ v ∷ w ∷ t ∷ l) x y z n e f g = absurd (omega arith)
+
+pub all_filled : (post : ℕ → ℤ × ℕ → Type 0) (m : List Bool) (p q : Image) (a : ℕ) → 3 ≤ a → Filled post m p q a → (s : Step) → GivesAt post (new_axis s p) → q ≡ through m s p
+all_filled post m p q a l f s g =
+    let x = f.done s g 0 (omega arith) in
+    let y = f.done s g 1 (omega arith) in
+    let z = f.done s g 2 (omega arith) in
+    ap₂ (λ (u : List ℤ) (v : List ℕ). record { at = u; spread = v }) (from_three (pos 0) q.at _ _ _ f.long x.0 y.0 z.0) (from_three 0 q.spread _ _ _ f.wide x.1 y.1 z.1)

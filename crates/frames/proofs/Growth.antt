@@ -10,7 +10,7 @@ use Rattle.chains.specs.Steps.{first_of, second_of}
 use Rattle.frames.specs.declared.image.Image.{Image}
 use Rattle.frames.specs.Pushing.{coordinate, spread_of, new_spread, through, carried, settable, started, scale_spread, odd_spread, scaled_spread, quarters_spread, quartered}
 use Rattle.frames.specs.Theorems.{weight, weight_of, Modest, NotEnlarging, NoneEnlarges, Grown, AllInRange, Growth}
-use Rattle.frames.proofs.Passing.{through_spread, Ranged, carried_ranged, started_bounded}
+use Rattle.frames.proofs.Passing.{through_spread, Ranged, carried_ranged, started_near}
 use Rattle.frames.proofs.Images.{first_below, second_below}
 
 -- one scale or odd turn more
@@ -100,7 +100,7 @@ start_grown values (suc (suc zero)) h = omega arith
 start_grown values (suc (suc (suc a))) h = absurd (omega arith)
 
 pub growth : Growth
-growth ss m values k r = carried_grown ss m (started values) k r (started_bounded values).near (start_grown values)
+growth ss m values k r = carried_grown ss m (started values) k r (started_near values) (start_grown values)
 
 pub image_grown : (ss : List Step) (m : List Bool) (o values : List Length) → NoneEnlarges ss → AllInRange (settable o ∷ ss) m (started values) → Grows (weight_of ss) (carried (settable o ∷ ss) m (started values))
 image_grown ss m o values k r a h = rw zero-add at (growth (settable o ∷ ss) m values (tt, k) r a h)

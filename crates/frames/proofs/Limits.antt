@@ -6,7 +6,7 @@ use Rattle.chains.specs.declared.step.Step.{Step}
 use Rattle.frames.specs.declared.image.Image.{Image}
 use Rattle.frames.specs.Pushing.{coordinate, spread_of, new_at, new_spread, through, too_wide, onward, through_steps, carried, settable, started, length_at, pushed}
 use Rattle.frames.specs.Theorems.{Limited}
-use Rattle.frames.proofs.Passing.{tested_same, tested_passed, through_at, through_spread, ltb_no, pushed_carried, carried_ranged, started_bounded}
+use Rattle.frames.proofs.Passing.{tested_same, tested_passed, through_at, through_spread, ltb_no, pushed_carried, carried_ranged, started_near}
 
 abbrev Kept : List Bool → Image → Image → Type 0
 Kept m x q = (a : ℕ) → a < 3 → get_or m a false ≡ false → (coordinate q a ≡ coordinate x a) × (spread_of q a ≡ spread_of x a)
@@ -41,7 +41,7 @@ pushed_limited ss m tol o values (Ok q) e =
     λ a h f. subst (λ (w : Image). (coordinate w a ≡ (length_at values a).units) × (spread_of w a ≡ 0)) (sym c.same)
     (let k = carried_kept (settable o ∷ ss) m (started values) a h f in let s = start_kept values a h in (k.0 ∙ s.0, k.1 ∙ s.1)) in
     record {
-      ranged = subst (λ (w : Image). (a : ℕ) → a < 3 → nat_abs (coordinate w a) ≤ 2000000000) (sym c.same) (carried_ranged (settable o ∷ ss) m (started values) c.ranged (started_bounded values).near);
+      ranged = subst (λ (w : Image). (a : ℕ) → a < 3 → nat_abs (coordinate w a) ≤ 2000000000) (sym c.same) (carried_ranged (settable o ∷ ss) m (started values) c.ranged (started_near values));
       tolerated = λ a h. narrow_by tol (spread_of q a) (get_or m a false) (onward_narrow 9 m tol (settable o) (through_steps ss 1 m tol (started values)) q (sym e) a h) (λ f. (kept a h f).1);
       unmoved = kept;
     }

@@ -6,8 +6,10 @@ use Rattle.units.specs.declared.quantity.Length.{Length}
 use Rattle.units.specs.declared.fault.Fault.{Fault}
 use Rattle.units.specs.declared.fault.Fault.TheVariants.{Beyond, Spread}
 use Rattle.chains.specs.declared.step.Step.{Step}
+use Rattle.chains.specs.declared.step.Step.TheVariants.{Offset}
 use Rattle.frames.specs.declared.image.Image.{Image}
-use Rattle.frames.specs.Pushing.{first_axis, moved_at, moved_spread, through, too_far, too_wide, is_beyond, is_wide, or_else, tested, onward, through_steps, pushed, settable, started, length_at, carried, Bounded, coordinate, spread_of, new_at, new_spread}
+use Rattle.frames.specs.declared.tested.Stepped.{Stepped}
+use Rattle.frames.specs.Pushing.{first_axis, moved_at, moved_spread, through, too_far, too_wide, is_beyond, is_wide, or_else, tested, onward, through_steps, pushed, on_all, settable, started, length_at, carried, coordinate, spread_of, new_at, new_spread}
 use Rattle.frames.specs.Theorems.{AllInRange}
 
 pub or_else_ok : (o : Option Axis) (f : Axis → Fault) (r : Result Image Fault) (q : Image) → or_else o f r ≡ Ok q → (o ≡ None) × (r ≡ Ok q)
@@ -43,6 +45,16 @@ tested_passed n m tol p q e =
     let e2 = or_else_ok (first_axis (is_wide m tol p)) (λ a. Spread 0 a n) (Ok p) q e1.1 in
     record { near = none_found (is_beyond m p) e1.0; small = none_found (is_wide m tol p) e2.0 }
 
+module _ (n : ℕ) (m : List Bool) (tol : ℕ) (p : Image) where
+  pub told_beyond : (x : Axis) → Some x ≡ first_axis (is_beyond m p) → Err (Beyond 0 x n) ≡ tested n m tol p
+  told_beyond x e = ap (λ (o : Option Axis). or_else o (λ a. Beyond 0 a n) (or_else (first_axis (is_wide m tol p)) (λ a. Spread 0 a n) (Ok p))) e
+
+  pub told_wide : (x : Axis) → None ≡ first_axis (is_beyond m p) → Some x ≡ first_axis (is_wide m tol p) → Err (Spread 0 x n) ≡ tested n m tol p
+  told_wide x d e = ap₂ (λ (o w : Option Axis). or_else o (λ a. Beyond 0 a n) (or_else w (λ a. Spread 0 a n) (Ok p))) d e
+
+  pub told_none : None ≡ first_axis (is_beyond m p) → None ≡ first_axis (is_wide m tol p) → Ok p ≡ tested n m tol p
+  told_none d e = ap₂ (λ (o w : Option Axis). or_else o (λ a. Beyond 0 a n) (or_else w (λ a. Spread 0 a n) (Ok p))) d e
+
 pub through_at : (m : List Bool) (s : Step) (p : Image) (a : ℕ) → a < 3 → coordinate (through m s p) a ≡ moved_at m s p a
 through_at m s p zero h = refl
 through_at m s p (suc zero) h = refl
@@ -59,27 +71,13 @@ through_spread m s p (suc (suc (suc a))) h = absurd (omega arith)
 pub ltb_no : (a b : ℕ) → ltb a b ≡ false → b ≤ a
 ltb_no a b e = omega (arith, ltb-false)
 
-far_by : (b : Bool) (x y : ℤ) (z : ℤ) → z ≡ cond b x y → too_far b z ≡ false → nat_abs y ≤ 2000000000 → nat_abs z ≤ 2000000000
-far_by true x y z e t h = ltb_no 2000000000 (nat_abs z) t
-far_by false x y z e t h = subst (λ (w : ℤ). nat_abs w ≤ 2000000000) (sym e) h
+pub near_by : (b : Bool) (z : ℤ) → too_far b z ≡ false → (b ≡ false → nat_abs z ≤ 2000000000) → nat_abs z ≤ 2000000000
+near_by true z t h = ltb_no 2000000000 (nat_abs z) t
+near_by false z t h = h refl
 
-wide_by : (tol : ℕ) (b : Bool) (x y z : ℕ) → tol ≤ 100000 → z ≡ cond b x y → too_wide tol b z ≡ false → y ≤ 100000 → z ≤ 100000
-wide_by tol true x y z l e t h = le_trans (ltb_no tol z t) l
-wide_by tol false x y z l e t h = subst (λ (w : ℕ). w ≤ 100000) (sym e) h
-
-pub through_bounded : (m : List Bool) (tol : ℕ) (s : Step) (p : Image) → tol ≤ 100000 → Bounded p → Passed m tol (through m s p) → Bounded (through m s p)
-through_bounded m tol s p l b t = record {
-  near = λ a h. far_by (get_or m a false) (new_at s a p) (coordinate p a) (coordinate (through m s p) a) (through_at m s p a h) (t.near a h) (b.near a h);
-  small = λ a h. wide_by tol (get_or m a false) (new_spread s a p) (spread_of p a) (spread_of (through m s p) a) l (through_spread m s p a h) (t.small a h) (b.small a h);
-}
-
-onward_bounded : (n : ℕ) (m : List Bool) (tol : ℕ) (s : Step) (r : Result Image Fault) (q : Image) → tol ≤ 100000 → ((p : Image) → r ≡ Ok p → Bounded p) → onward n m tol s r ≡ Ok q → Bounded q
-onward_bounded n m tol s (Err f) q l b e = absurd (let z : ◌≡◌ {A = ℕ} 0 1 = cc in omega arith)
-onward_bounded n m tol s (Ok p) q l b e = subst Bounded (tested_same n m tol (through m s p) q e) (through_bounded m tol s p l (b p refl) (tested_passed n m tol (through m s p) q e))
-
-pub steps_bounded : (ss : List Step) (n : ℕ) (m : List Bool) (tol : ℕ) (x q : Image) → tol ≤ 100000 → Bounded x → through_steps ss n m tol x ≡ Ok q → Bounded q
-steps_bounded [] n m tol x q l b e = let z : x ≡ q = cc in subst Bounded z b
-steps_bounded (s ∷ ss) n m tol x q l b e = onward_bounded n m tol s (through_steps ss (suc n) m tol x) q l (λ p h. steps_bounded ss (suc n) m tol x p l b h) e
+pub small_by : (tol : ℕ) (b : Bool) (z : ℕ) → tol ≤ 100000 → too_wide tol b z ≡ false → (b ≡ false → z ≤ 100000) → z ≤ 100000
+small_by tol true z l t h = le_trans (ltb_no tol z t) l
+small_by tol false z l t h = h refl
 
 -- the loop over the steps
 pub push_one : (ss : List Step) (i : ℕ) (m : List Bool) (tol : ℕ) (x p : Image) (d : Step) → 0 < i → i ≤ length ss → through_steps (drop i ss) (i + 1) m tol x ≡ Ok p →
@@ -164,39 +162,36 @@ carried_ranged (s ∷ ss) m x r h a l =
 length_ranged : (l : Length) → nat_abs l.units ≤ 2000000000
 length_ranged l = le_trans l.most (lit≤ tt)
 
-pub started_bounded : (values : List Length) → Bounded (started values)
-started_bounded values = record { near = near_at; small = small_at }
-  where
-    near_at : (a : ℕ) → a < 3 → nat_abs (coordinate (started values) a) ≤ 2000000000
-    near_at zero h = length_ranged (length_at values 0)
-    near_at (suc zero) h = length_ranged (length_at values 1)
-    near_at (suc (suc zero)) h = length_ranged (length_at values 2)
-    near_at (suc (suc (suc a))) h = absurd (omega arith)
+pub started_near : (values : List Length) (a : ℕ) → a < 3 → nat_abs (coordinate (started values) a) ≤ 2000000000
+started_near values zero h = length_ranged (length_at values 0)
+started_near values (suc zero) h = length_ranged (length_at values 1)
+started_near values (suc (suc zero)) h = length_ranged (length_at values 2)
+started_near values (suc (suc (suc a))) h = absurd (omega arith)
 
-    small_at : (a : ℕ) → a < 3 → spread_of (started values) a ≤ 100000
-    small_at zero h = lit≤ tt
-    small_at (suc zero) h = lit≤ tt
-    small_at (suc (suc zero)) h = lit≤ tt
-    small_at (suc (suc (suc a))) h = absurd (omega arith)
+pub started_small : (values : List Length) (a : ℕ) → a < 3 → spread_of (started values) a ≤ 100000
+started_small values zero h = lit≤ tt
+started_small values (suc zero) h = lit≤ tt
+started_small values (suc (suc zero)) h = lit≤ tt
+started_small values (suc (suc (suc a))) h = absurd (omega arith)
 
--- the loop of a push, from its invariant
-module _ (steps : List Step) (k : ℕ) (m : List Bool) (tol : ℕ) (o values : List Length) (x : Image) (h : k ≤ length steps) (ex : x ≡ started values) where
-  pub loop_bounded : (i : ℕ) (p : Image) → tol ≤ 100000 → through_steps (drop i (take k steps)) (i + 1) m tol x ≡ Ok p → Bounded p
-  loop_bounded i p l e = steps_bounded (drop i (take k steps)) (i + 1) m tol x p l (subst Bounded (sym ex) (started_bounded values)) e
-
+-- the loop of a push, from its invariant; q is the image before the tests
+module _ (steps : List Step) (k : ℕ) (m : List Bool) (tol : ℕ) (o values : List Length) (x : Image) (h : k ≤ length steps) (ex : x ≡ started values) (i : ℕ) (p : Image) (so : through_steps (drop i (take k steps)) (i + 1) m tol x ≡ Ok p) (q : Stepped) (em : q.moved ≡ m) where
   onward_last : (r : Result Image Fault) → through_steps (take k steps) 1 m tol x ≡ r → onward 9 m tol (settable o) r ≡ pushed (take k steps) m tol o values
   onward_last r e = ap (onward 9 m tol (settable o)) (sym e ∙ ap (through_steps (take k steps) 1 m tol) ex)
 
-  -- the step is told by its number n
-  numbered : (i n : ℕ) (r : Result Image Fault) (q : Image) → n ≡ i - 1 + 1 → r ≡ tested n m tol q → r ≡ tested (i - 1 + 1) m tol q
-  numbered i n r q en e = e ∙ ap (λ (k : ℕ). tested k m tol q) en
+  module _ (some : 0 < i) (within : i ≤ k) (d : Step) (eq : q.image ≡ through m (get_or steps (i - 1) d) p) (n : ℕ) (en : n ≡ i - 1 + 1) where
+    -- the step is told by its number n
+    numbered : (r : Result Image Fault) → r ≡ tested n q.moved tol q.image → through_steps (drop (i - 1) (take k steps)) (i - 1 + 1) m tol x ≡ r
+    numbered r e =
+        push_next steps k m tol x h i p d some within so
+        ∙ sym (e ∙ ap₂ (λ (b : List Bool) (j : ℕ). tested j b tol q.image) em en ∙ ap (tested (i - 1 + 1) m tol) eq)
 
-  pub loop_next : (i n : ℕ) (p q : Image) (d : Step) → n ≡ i - 1 + 1 → 0 < i → i ≤ k → through_steps (drop i (take k steps)) (i + 1) m tol x ≡ Ok p → Ok q ≡ tested n m tol (through m (get_or steps (i - 1) d) p) → through_steps (drop (i - 1) (take k steps)) (i - 1 + 1) m tol x ≡ Ok q
-  loop_next i n p q d en some within so e = push_next steps k m tol x h i p d some within so ∙ sym (numbered i n (Ok q) (through m (get_or steps (i - 1) d) p) en e)
+    pub loop_next : (r : Image) → Ok r ≡ tested n q.moved tol q.image → through_steps (drop (i - 1) (take k steps)) (i - 1 + 1) m tol x ≡ Ok r
+    loop_next r e = numbered (Ok r) e
 
-  pub loop_refused : (i n : ℕ) (p : Image) (d : Step) (f : Fault) → n ≡ i - 1 + 1 → 0 < i → i ≤ k → through_steps (drop i (take k steps)) (i + 1) m tol x ≡ Ok p → Err f ≡ tested n m tol (through m (get_or steps (i - 1) d) p) → Err f ≡ pushed (take k steps) m tol o values
-  loop_refused i n p d f en some within so e =
-      onward_last (Err f) (push_refused (take k steps) (i - 1) 1 m tol x f (push_next steps k m tol x h i p d some within so ∙ sym (numbered i n (Err f) (through m (get_or steps (i - 1) d) p) en e)))
+    pub loop_refused : (f : Fault) → Err f ≡ tested n q.moved tol q.image → Err f ≡ pushed (take k steps) m tol o values
+    loop_refused f e = onward_last (Err f) (push_refused (take k steps) (i - 1) 1 m tol x f (numbered (Err f) e))
 
-  pub loop_ended : (i : ℕ) (p : Image) (s : Step) (r : Result Image Fault) → i ≤ 0 → through_steps (drop i (take k steps)) (i + 1) m tol x ≡ Ok p → s ≡ settable o → r ≡ tested 9 m tol (through m s p) → r ≡ pushed (take k steps) m tol o values
-  loop_ended i p s r z so es e = e ∙ ap (λ (t : Step). tested 9 m tol (through m t p)) es ∙ onward_last (Ok p) (push_end (take k steps) i m tol x p z so)
+  pub loop_ended : i ≤ 0 → (b : List (Option Length)) → b ≡ on_all o → q.image ≡ through m (Offset b) p → (r : Result Image Fault) → r ≡ tested 9 q.moved tol q.image → r ≡ pushed (take k steps) m tol o values
+  loop_ended z b eb eq r e =
+      e ∙ ap₂ (λ (a : List Bool) (w : Image). tested 9 a tol w) em eq ∙ ap (λ (t : List (Option Length)). tested 9 m tol (through m (Offset t) p)) eb ∙ onward_last (Ok p) (push_end (take k steps) i m tol x p z so)

@@ -1,5 +1,5 @@
 pub mod Pushing
-pub mod Prepared
+pub mod Axes
 pub mod Exact
 pub mod Theorems
 pub mod Laws

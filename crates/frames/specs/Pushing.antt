@@ -138,11 +138,6 @@ tested n m tol p =
     or_else (first_axis (is_beyond m p)) (λ a. Beyond 0 a n)
     (or_else (first_axis (is_wide m tol p)) (λ a. Spread 0 a n) (Ok p))
 
--- the image that was tested, where it passed
-abbrev pub given : Result (Unit {0}) Fault → Image → Result Image Fault
-given (Ok _) p = Ok p
-given (Err e) p = Err e
-
 abbrev pub onward : ℕ → List Bool → ℕ → Step → Result Image Fault → Result Image Fault
 onward n m tol s (Ok p) = tested n m tol (through m s p)
 onward n m tol s (Err e) = Err e
@@ -174,8 +169,3 @@ pushed ss m tol o values = onward 9 m tol (settable o) (through_steps ss 1 m tol
 abbrev pub carried : List Step → List Bool → Image → Image
 carried [] m p = p
 carried (s ∷ ss) m p = through m s (carried ss m p)
-
--- every coordinate and spread within the tested range
-pub record Bounded (p : Image) : Type 0 where
-  pub near : (a : ℕ) → a < 3 → unsigned_abs (coordinate p a) ≤ 2000000000
-  pub small : (a : ℕ) → a < 3 → spread_of p a ≤ 100000

@@ -1,13 +1,13 @@
 // Pushing a point: each step, the tests after it, and the whole chain.
 ghost use Rattle.std.specs.Prelude.{◌≡◌, ℕ, ◌+◌, ◌<◌, ◌≤◌, Bool, true, false, cond, List, [], ◌∷◌, length, ℤ, IfOk};
 ghost use Rattle.chains.specs.Chains.{steps_of};
-ghost use Rattle.frames.specs.Pushing.{axis_at, through, first_axis, too_far, too_wide, is_beyond, is_wide, tested as passed, given, pushed, on_all, started, Bounded};
+ghost use Rattle.frames.specs.Pushing.{first_axis, tested as passed, pushed, on_all, started};
+ghost use Rattle.frames.specs.Axes.{GivesAt, image_of};
 ghost use Rattle.frames.specs.Theorems.{Sound, Limited};
 
 use crate::image::Image;
-use crate::step::{offset_step, stepped};
+use crate::tested::{Stepped, Tested};
 use chains::chain::Chain;
-use chains::step::Step;
 use units::axis::Axis;
 use units::fault::Fault;
 use units::quantity::{Length, Tolerance};
@@ -18,6 +18,8 @@ const FAR: u64 = 2_000_000_000;
 /// The step told with the settable offset.
 const SETTABLE: u8 = 9;
 
+const AXES: [Axis; 3] = [Axis::X, Axis::Y, Axis::Z];
+
 /// Steps are told from 1, the outermost.
 fn step_number(place: usize) -> u8
     requires { place < 8 }
@@ -26,91 +28,41 @@ fn step_number(place: usize) -> u8
     place as u8 + 1
 }
 
-fn axis_of(a: usize) -> Axis
-    ensures { result ≡ axis_at a }
-{
-    match a {
-        0 => Axis::X,
-        1 => Axis::Y,
-        _ => Axis::Z,
-    }
-}
-
-fn too_far(moved: bool, x: i64) -> bool
-    ensures { result ≡ too_far moved x }
-{
-    moved && x.unsigned_abs() > FAR
-}
-
-fn too_wide(tolerance: Tolerance, moved: bool, r: u64) -> bool
-    ensures { result ≡ too_wide tolerance.units moved r }
-{
-    moved && r > tolerance.units
-}
-
-fn first_beyond(moved: [bool; 3], p: &Image) -> Option<Axis>
-    ensures { result ≡ first_axis (is_beyond moved p.now) }
+/// The first axis of which the test is true.
+fn first_axis<F: Fn(usize) -> bool>(test: F) -> Option<Axis>
+    requires { (a : ℕ) → a < 3 → F.pre test a }
+    ensures { (f : ℕ → Bool) → GivesAt (F.post test) f → result ≡ first_axis f }
 {
     for a in 0..3 {
-        if too_far(moved[a], p.at[a]) {
-            return Some(axis_of(a));
+        if test(a) {
+            return Some(AXES[a]);
         }
     }
     None
 }
 
-fn first_wide(moved: [bool; 3], tolerance: Tolerance, p: &Image) -> Option<Axis>
-    ensures { result ≡ first_axis (is_wide moved tolerance.units p.now) }
-{
-    for a in 0..3 {
-        if too_wide(tolerance, moved[a], p.spread[a]) {
-            return Some(axis_of(a));
+impl Stepped {
+    /// 13 over the axes, then 14, each in axis order.
+    fn tested(self, step: u8, tolerance: Tolerance) -> Result<Tested, Fault>
+        ensures { image_of result ≡ passed step self.moved tolerance.units self.image }
+    {
+        let Stepped { image, moved } = self;
+        if let Some(axis) = first_axis(|a| moved[a] && image.at[a].unsigned_abs() > FAR) {
+            return Err(Fault::Beyond {
+                place: 0,
+                axis,
+                step,
+            });
         }
+        if let Some(axis) = first_axis(|a| moved[a] && image.spread[a] > tolerance.units) {
+            return Err(Fault::Spread {
+                place: 0,
+                axis,
+                step,
+            });
+        }
+        Ok(Tested { image })
     }
-    None
-}
-
-/// 13 over the axes, then 14, each in axis order.
-fn tested(step: u8, moved: [bool; 3], tolerance: Tolerance, p: &Image) -> Result<(), Fault>
-    ensures { given result p.now ≡ passed step moved tolerance.units p.now }
-{
-    if let Some(axis) = first_beyond(moved, p) {
-        return Err(Fault::Beyond {
-            place: 0,
-            axis,
-            step,
-        });
-    }
-    if let Some(axis) = first_wide(moved, tolerance, p) {
-        return Err(Fault::Spread {
-            place: 0,
-            axis,
-            step,
-        });
-    }
-    Ok(())
-}
-
-/// One step and the tests after it, in place.
-fn step_on(
-    number: u8,
-    moved: [bool; 3],
-    tolerance: Tolerance,
-    step: &Step,
-    p: &mut Image,
-) -> Result<(), Fault>
-    requires { Bounded p.old }
-    ensures { given result p.new ≡ passed number moved tolerance.units (through moved step.now p.old) }
-{
-    *p = stepped(moved, step, *p);
-    tested(number, moved, tolerance, p)
-}
-
-/// The settable offset names all three axes.
-fn on_all(offset: [Length; 3]) -> [Option<Length>; 3]
-    ensures { result ≡ on_all offset }
-{
-    [Some(offset[0]), Some(offset[1]), Some(offset[2])]
 }
 
 /// The workpiece values themselves, with spreads of 0.
@@ -118,9 +70,27 @@ pub fn unpushed(values: [Length; 3]) -> Image
     ensures { result ≡ started values }
 {
     Image {
-        at: [values[0].units, values[1].units, values[2].units],
+        at: values.map(|v| v.units),
         spread: [0; 3],
     }
+}
+
+impl Tested {
+    /// The workpiece values.
+    fn start(values: [Length; 3]) -> Tested
+        ensures { result.image ≡ started values }
+    {
+        Tested {
+            image: unpushed(values),
+        }
+    }
+}
+
+/// The settable offset names all three axes.
+fn on_all(offset: [Length; 3]) -> [Option<Length>; 3]
+    ensures { result ≡ on_all offset }
+{
+    offset.map(Some)
 }
 
 /// The workpiece values through the chain, from the innermost step to step 1, and then by the settable offset (all 0
@@ -136,16 +106,13 @@ pub fn push(
     ensures sound { IfOk result (Sound (steps_of chain.now) moved offset values) }
     ensures limited { IfOk result (Limited moved tolerance.units values) }
 {
-    let mut p = unpushed(values);
+    let mut p = Tested::start(values);
     for i in (0..chain.count).rev() {
-        match step_on(step_number(i), moved, tolerance, &chain.steps[i], &mut p) {
-            Ok(()) => {}
-            Err(fault) => return Err(fault),
-        }
+        p = p
+            .through(moved, &chain.steps[i])
+            .tested(step_number(i), tolerance)?;
     }
-    p = offset_step(moved, on_all(offset), p);
-    match tested(SETTABLE, moved, tolerance, &p) {
-        Ok(()) => Ok(p),
-        Err(fault) => Err(fault),
-    }
+    p.offset(moved, on_all(offset))
+        .tested(SETTABLE, tolerance)
+        .map(|p| p.image)
 }

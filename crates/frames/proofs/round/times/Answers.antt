@@ -1,11 +1,17 @@
-use Rattle.frames.proofs.Products.{bits_fit, bits_value, bits_size}
+use Rattle.std.proofs.Common.{◌≤◌, ℤ, ◌*ℤ◌, lit<, mul-le-mul, rules, w64, SFits}
+use Rattle.std.proofs.lemmas.Int.{to_z-of_z, fits_signed_mul, unsigned_abs-mul}
 use Rattle.frames.proofs.round.times.Goals as goal
 
-pub overflow_mul-result : goal.overflow_mul-result
-overflow_mul-result c = bits_fit c.args.a c.args.b c.ranges.a c.ranges.b c.requires.0 c.requires.1
+pub returns-clause-value : goal.returns-clause-value
+returns-clause-value c =
+    let a : SFits w64 c.args.a = c.ranges.a in
+    let x : SFits w64 c.args.x.at = search rules in
+    let product : SFits w64 (c.args.a *ℤ c.args.x.at) = fits_signed_mul w64 c.args.a c.args.x.at 1000000000 2000000000 c.requires c.args.x.near (lit< tt) in
+    simp to_z-of_z
 
-pub returns : goal.returns
-returns c = record {
-  value = bits_value c.args.a c.args.b c.ranges.a c.ranges.b c.requires.0 c.requires.1;
-  size = bits_size c.args.a c.args.b c.ranges.a c.ranges.b c.requires.0 c.requires.1;
-}
+pub returns-clause-size : goal.returns-clause-size
+returns-clause-size c =
+    let a : SFits w64 c.args.a = c.ranges.a in
+    let x : SFits w64 c.args.x.at = search rules in
+    let product : SFits w64 (c.args.a *ℤ c.args.x.at) = fits_signed_mul w64 c.args.a c.args.x.at 1000000000 2000000000 c.requires c.args.x.near (lit< tt) in
+    simp (to_z-of_z, unsigned_abs-mul) (mul-le-mul c.requires c.args.x.near)
