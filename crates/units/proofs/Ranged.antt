@@ -40,8 +40,16 @@ factor_made f =
     made_where 1 f.parts (λ s. where_≤ f.parts 10000000 (λ m. Some (record { parts = f.parts; some = s; most = m }))) f.some ∙
     made_where f.parts 10000000 (λ m. Some (record { parts = f.parts; some = f.some; most = m })) f.most
 
+pub factor_large : (n : ℕ) → 1 ≤ n → 10000000 < n → factor_of n ≡ None
+factor_large n s h =
+    made_where 1 n (λ s. where_≤ n 10000000 (λ m. Some (record { parts = n; some = s; most = m }))) s ∙
+    none_where n 10000000 (λ m. Some (record { parts = n; some = s; most = m })) h
+
 pub angle_made : (a : Angle) → angle_of a.ticks ≡ Some a
 angle_made a = made_where (suc a.ticks) 3600000 (λ h. Some (record { ticks = a.ticks; below = h })) a.below
+
+pub angle_none : (n : ℕ) → 3600000 ≤ n → angle_of n ≡ None
+angle_none n h = none_where (suc n) 3600000 (λ k. Some (record { ticks = n; below = k })) (omega arith)
 
 pub tolerance_made : (t : Tolerance) → tolerance_of t.units ≡ Some t
 tolerance_made t = made_where t.units 100000 (λ h. Some (record { units = t.units; most = h })) t.most
