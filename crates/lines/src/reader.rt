@@ -1,5 +1,7 @@
-// The lines of a text. Byte 10 ends a line, and bytes after the last one are a line too.
-ghost use Rattle.std.specs.Prelude.{◌≡◌, ℕ, ◌+◌, ◌<◌, ◌≤◌, length, drop, ◌≢◌, slice_index};
+// Reading a text line by line.
+ghost use Rattle.std.specs.Prelude.{◌≡◌, ℕ, ◌-◌, ◌≤◌, length, drop, ◌==◌};
+ghost use Rattle.std.specs.Iterator.{at_most};
+ghost use Rattle.std.specs.List.{position};
 ghost use Rattle.lines.specs.Lines.{Reads};
 
 /// A line without the byte that ends it: where it begins in the text, and its number, counted from 1.
@@ -20,29 +22,11 @@ pub struct LineReader<'a> {
     ghost counted: { count ≤ place },
 }
 
-// How many bytes at the front are not byte 10.
-fn line_length(text: &[u8]) -> usize
-    ensures within { result ≤ length text.now }
-    ensures free { (k : ℕ) → k < result → slice_index text.now k ≢ 10 }
-    ensures ends { result < length text.now → slice_index text.now result ≡ 10 }
+// Where the first byte 10 stands.
+fn first_end(text: &[u8]) -> Option<usize>
+    ensures { result ≡ position (λ b. b == 10) text.now }
 {
-    let mut n = 0;
-    while n < text.len() && text[n] != b'\n' {
-        n += 1;
-    }
-    n
-}
-
-// Where the line behind one that ends at a place begins.
-fn next_start(text: &[u8], end: usize) -> usize
-    requires { end ≤ length text.now }
-    ensures more { end < length text.now → result ≡ end + 1 }
-    ensures last { end ≡ length text.now → result ≡ end }
-{
-    if end < text.len() {
-        return end + 1;
-    }
-    end
+    text.iter().position(|b| *b == b'\n')
 }
 
 impl<'a> LineReader<'a> {
@@ -69,18 +53,14 @@ impl<'a> LineReader<'a> {
         if start == text.len() {
             return None;
         }
-        let end = start + line_length(&text[start..]);
-        let place = next_start(text, end);
-        let number = self.count + 1;
-        *self = LineReader {
-            text,
-            place,
-            count: number,
-        };
+        let left = &text[start..];
+        let end = start + first_end(left).unwrap_or(left.len());
+        self.place = (end + 1).min(text.len());
+        self.count += 1;
         Some(Line {
             bytes: &text[start..end],
             start,
-            number,
+            number: self.count,
         })
     }
 
@@ -90,5 +70,17 @@ impl<'a> LineReader<'a> {
     {
         let text = self.text;
         &text[self.place..]
+    }
+}
+
+impl<'a> Iterator for LineReader<'a> {
+    type Item = Line<'a>;
+
+    ghost next_gives = { λ s l t. (t.text.now ≡ s.text.now) × Reads s.text.now s.place s.count l t.place t.count };
+
+    ghost remaining = { λ s. at_most (length s.text.now - s.place) };
+
+    fn next(&mut self) -> Option<Line<'a>> {
+        self.next_line()
     }
 }

@@ -1,8 +1,8 @@
 -- A roll with more records.
-use Rattle.std.proofs.Common.{◌≡◌, ℕ, ◌+◌, ◌<◌, ◌≤◌, List, [], ◌∷◌, ◌++◌, length, take, drop, set, sym, refl, ap, ◌∙◌, append_assoc, add-zero, add-one, arith, length-append, length-drop, le-leb}
+use Rattle.std.proofs.Common.{◌≡◌, ℕ, ◌+◌, ◌<◌, ◌≤◌, List, [], ◌∷◌, ◌++◌, length, take, drop, set, sym, refl, ap, ◌∙◌, append_assoc, add-zero, add-one, arith, length-append, length-drop}
 use borrow.Author.Tests.{lt-leb}
 use Rattle.std.proofs.lemmas.List.{take-append-drop, take_at, drop_at, set_split, length-take-le, drop-drop}
-use Rattle.rolls.specs.Rolls.{RollState, records_of, extended, appended, Filed}
+use Rattle.rolls.specs.Rolls.{RollState, records_of, extended, appended}
 
 module _ {R : Type 0} where
   roll_as : (p q : List R) (m n : ℕ) → p ≡ q → m ≡ n → ◌≡◌ {A = RollState R} (record { places = p; count = m }) (record { places = q; count = n })
@@ -61,18 +61,3 @@ module _ {R : Type 0} where
 
   pub append_room : (s : RollState R) (r : R) → s.count < length s.places → extended s (r ∷ []) ≡ appended s r
   append_room s r room = rw (lt-leb (length s.places) s.count room)
-
-  pub append_full : (s : RollState R) (r : R) → length s.places ≤ s.count → s ≡ appended s r
-  append_full s r full = rw (le-leb (length s.places) s.count full)
-
-  pub filed_room : (s t : RollState R) (r : R) → s.count < length s.places → t ≡ extended s (r ∷ []) → Filed s r t
-  filed_room s t r h e =
-      let k : s.count + 1 ≤ length s.places = omega arith in
-      record {
-        room = λ _. ap records_of e ∙ records_more s (r ∷ []) k;
-        full = λ f. absurd (omega arith);
-        places = ap (λ (x : RollState R). length x.places) e ∙ places_more s (r ∷ []) k;
-      }
-
-  pub filed_full : (s : RollState R) (r : R) → length s.places ≤ s.count → Filed s r s
-  filed_full s r h = record { room = λ f. absurd (omega arith); full = λ _. refl; places = refl }

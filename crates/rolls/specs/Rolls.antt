@@ -1,5 +1,7 @@
 -- A roll: the caller's places, of which the first hold records.
-use Rattle.std.specs.Prelude.{◌≡◌, ℕ, zero, suc, ◌+◌, ◌<◌, ◌≤◌, Bool, cond, List, [], ◌∷◌, ◌++◌, length, take, drop, Some, None, Ok, Err, Option, Result, nat_le}
+use Rattle.std.specs.Prelude.{◌≡◌, ℕ, ◌+◌, ◌<◌, ◌≤◌, Bool, cond, List, [], ◌∷◌, ◌++◌, length, take, drop, Some, None, Ok, Err, Option, Result, nat_le}
+use Rattle.std.specs.List.{find, slice_get}
+use Rattle.std.specs.Option.{ok_or}
 use Rattle.units.specs.declared.fault.Fault.{Fault}
 use Rattle.units.specs.declared.fault.Fault.TheVariants.{RollFull, Argument}
 use Rattle.rolls.specs.declared.roll.Roll.{Roll}
@@ -48,14 +50,11 @@ module _ {R : Type 0} where
 
   -- the one at n, from 0
   abbrev pub nth_of : List R → ℕ → Result R Fault
-  nth_of [] n = Err Argument
-  nth_of (r ∷ rs) zero = Ok r
-  nth_of (r ∷ rs) (suc n) = nth_of rs n
+  nth_of rs n = ok_or (slice_get rs n) Argument
 
   -- the first that starts at a byte or after it
   abbrev pub first_from : (R → ℕ) → List R → ℕ → Option R
-  first_from start [] byte = None
-  first_from start (r ∷ rs) byte = cond (nat_le byte (start r)) (Some r) (first_from start rs byte)
+  first_from start rs byte = find (λ r. nat_le byte (start r)) rs
 
   -- each of them starts before a byte
   abbrev pub AllBefore : (R → ℕ) → ℕ → List R → Type 0

@@ -28,6 +28,13 @@ impl<'a, R: Copy> Roll<'a, R> {
         Ok(())
     }
 
+    // The records so far.
+    fn records(&self) -> &[R]
+        ensures { result.now ≡ records_of (roll_of self.now) }
+    {
+        &self.places[..self.count]
+    }
+
     /// How many records there are.
     pub fn count(&mut self) -> usize
         ensures told { result ≡ length (records_of (roll_of self.old)) }
@@ -59,11 +66,7 @@ impl<'a, R: Copy> Roll<'a, R> {
         ensures told { result ≡ nth_of (records_of (roll_of self.old)) n }
         ensures same { self.new ≡ self.old }
     {
-        if n < self.count {
-            Ok(self.places[n])
-        } else {
-            Err(Fault::Argument)
-        }
+        self.records().get(n).copied().ok_or(Fault::Argument)
     }
 }
 
@@ -88,12 +91,6 @@ impl<'a, R: Record + Copy> Roll<'a, R> {
         ensures first { First R.start_of (records_of (roll_of self.old)) byte result }
         ensures same { self.new ≡ self.old }
     {
-        for i in 0..self.count {
-            let r = self.places[i];
-            if r.start() >= byte {
-                return Some(r);
-            }
-        }
-        None
+        self.records().iter().copied().find(|r| r.start() >= byte)
     }
 }

@@ -1,16 +1,16 @@
 use Rattle.std.proofs.Common.{sym, ◌∙◌, rules}
-use Rattle.rolls.proofs.Places.{found_here, passed_here, none_left, is_first_as}
+use borrow.Author.Tests.{tests}
+use Rattle.std.proofs.lemmas.Iterator.{YieldsList-from_slice}
+use Rattle.std.proofs.lemmas.Iterator.Adapters.{option_map_id}
+use Rattle.std.proofs.lemmas.Iterator.Consumers.{YieldsList-from_copied}
+use Rattle.std.proofs.lemmas.Iterator.Search.{find_from_yields_List}
+use Rattle.std.specs.Prelude.{nat_le}
+use Rattle.rolls.specs.Rolls.{roll_of, records_of}
+use Rattle.rolls.proofs.Found.{is_first_as}
 use Rattle.rolls.proofs.roll.Roll.find.Goals as goal
 
-pub returns-then-start-byte : goal.returns-then-start-byte
-returns-then-start-byte g c =
-    let e = sym (c.loop-i.invariant ∙ found_here g.R.Record.start_of _ _ _ _ _ c.loop-i-test.true c.args.self.now.within (search rules)) in
-    record { told = e; first = is_first_as g.R.Record.start_of _ _ _ e; same = search rules }
-
-pub loop-i-preserved : goal.loop-i-preserved
-loop-i-preserved g c = c.loop-i.invariant ∙ passed_here g.R.Record.start_of _ _ _ _ c.index-self-i.result c.loop-i-test.true c.args.self.now.within (search rules)
-
-pub returns : goal.returns
-returns g c =
-    let e = sym (c.loop-i.invariant ∙ none_left g.R.Record.start_of _ _ _ _ c.loop-i-test.false) in
-    record { told = e; first = is_first_as g.R.Record.start_of _ _ _ e; same = search rules }
+pub returns-clause-first : goal.returns-clause-first
+returns-clause-first g c =
+    let start = g.R.Record.start_of in
+    let rs = records_of (roll_of c.args.self.now) in
+    is_first_as start c.args.byte rs c.find.result (sym (option_map_id c.find.result) ∙ find_from_yields_List (λ r. nat_le c.args.byte (start r)) _ _ c.find.result c.find.ensures.ran (YieldsList-from_copied (YieldsList-from_slice rs cc)) (λ x b q k. search (rules, tests)))
