@@ -1,3 +1,4 @@
+pub mod Axes
 pub mod Changes
 pub mod Entries
 pub mod Force

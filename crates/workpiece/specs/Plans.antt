@@ -1,5 +1,5 @@
 -- Which axes a block moves, where to, and how far off that may be.
-use Rattle.std.specs.Prelude.{ℕ, Bool, false, cond, not, ◌&&◌, List, [], ◌∷◌, ℤ, is_some, Some, None, Ok, Err, Option, Result, nat_lt, slice_index_or, unsigned_abs}
+use Rattle.std.specs.Prelude.{ℕ, Bool, false, cond, not, ◌&&◌, List, [], ◌∷◌, ℤ, pos, is_some, Some, None, Ok, Err, Option, Result, nat_lt, slice_index_or, unsigned_abs}
 use Rattle.units.specs.declared.axis.Axis.{Axis}
 use Rattle.units.specs.declared.axis.Axis.TheVariants.{X, Y, Z}
 use Rattle.units.specs.declared.fault.Fault.{Fault}
@@ -11,7 +11,7 @@ use Rattle.reader.specs.declared.functions.Distance.{Distance}
 use Rattle.chains.specs.declared.step.Step.{Step}
 use Rattle.chains.specs.Joined.{moved_axes}
 use Rattle.frames.specs.declared.image.Image.{Image}
-use Rattle.frames.specs.Pushing.{coordinate, spread_of, started, pushed}
+use Rattle.frames.specs.Pushing.{started, pushed}
 use Rattle.workpiece.specs.declared.force.InForce.{InForce}
 use Rattle.workpiece.specs.declared.plan.Plan.{Plan}
 use Rattle.workpiece.specs.declared.settable.SettableFrame.{SettableFrame}
@@ -51,12 +51,15 @@ open_axis m at = first_of (is_open (slice_index_or m 0 false) (slice_index_or at
 abbrev pub far_axis : List Bool → List (Option ℤ) → Option Axis
 far_axis m at = first_of (is_far (slice_index_or m 0 false) (slice_index_or at 0 None)) (is_far (slice_index_or m 1 false) (slice_index_or at 1 None)) (is_far (slice_index_or m 2 false) (slice_index_or at 2 None))
 
+abbrev pub values_at : List (Option ℤ) → List (Option Length)
+values_at at = placed_at (slice_index_or at 0 None) ∷ placed_at (slice_index_or at 1 None) ∷ placed_at (slice_index_or at 2 None) ∷ []
+
 -- the workpiece values then; a moved axis is neither open, 12, nor out of range, 13 at step 0
 abbrev pub placed : List Bool → List (Option ℤ) → Result (List (Option Length)) Fault
 placed m at =
     unless_axis (open_axis m at) (λ a. Open 0 a)
     (unless_axis (far_axis m at) (λ a. Beyond 0 a 0)
-    (Ok (placed_at (slice_index_or at 0 None) ∷ placed_at (slice_index_or at 1 None) ∷ placed_at (slice_index_or at 2 None) ∷ [])))
+    (Ok (values_at at)))
 
 -- an axis that is open does not move, so any value does
 abbrev pub length_or : Option Length → Length
@@ -70,17 +73,18 @@ values_or vs = length_or (slice_index_or vs 0 None) ∷ length_or (slice_index_o
 abbrev pub image_in : InForce → List Step → List SettableFrame → Tolerance → List Bool → List Length → Result Image Fault
 image_in f steps fs tol m vs = cond f.chained (pushed steps m tol.units (offset_of fs (frame_number f.settable)) vs) (Ok (started vs))
 
-abbrev pub kept_at : Bool → ℤ → ℤ → ℤ
+abbrev pub kept_at : {A : Type 0} → Bool → A → A → A
 kept_at moved new old = cond moved new old
 
-abbrev pub kept_spread : Bool → ℕ → ℕ → ℕ
-kept_spread moved new old = cond moved new old
+-- of a list, d where there is none
+abbrev pub kept : {A : Type 0} → A → List Bool → List A → List A → List A
+kept d m new old = kept_at (slice_index_or m 0 false) (slice_index_or new 0 d) (slice_index_or old 0 d) ∷ kept_at (slice_index_or m 1 false) (slice_index_or new 1 d) (slice_index_or old 1 d) ∷ kept_at (slice_index_or m 2 false) (slice_index_or new 2 d) (slice_index_or old 2 d) ∷ []
 
 -- an axis that does not move keeps target and spread
 abbrev pub kept_image : List Bool → Image → Image → Image
 kept_image m new old = record {
-  at = kept_at (slice_index_or m 0 false) (coordinate new 0) (coordinate old 0) ∷ kept_at (slice_index_or m 1 false) (coordinate new 1) (coordinate old 1) ∷ kept_at (slice_index_or m 2 false) (coordinate new 2) (coordinate old 2) ∷ [];
-  spread = kept_spread (slice_index_or m 0 false) (spread_of new 0) (spread_of old 0) ∷ kept_spread (slice_index_or m 1 false) (spread_of new 1) (spread_of old 1) ∷ kept_spread (slice_index_or m 2 false) (spread_of new 2) (spread_of old 2) ∷ [];
+  at = kept (pos 0) m new.at old.at;
+  spread = kept 0 m new.spread old.spread;
 }
 
 abbrev pub plan_of : List Bool → List (Option Length) → Image → Image → Plan

@@ -28,7 +28,7 @@ impl InForce {
     {
         InForce {
             settable: settable.unwrap_or(self.settable),
-            chained: self.chained,
+            ..self
         }
     }
 }

@@ -45,18 +45,12 @@ impl Modes {
 pub fn is_inch(unit: LengthUnit) -> bool
     ensures { result ≡ is_inch unit }
 {
-    match unit {
-        LengthUnit::Inch => true,
-        LengthUnit::Millimetre => false,
-    }
+    unit == LengthUnit::Inch
 }
 
 /// Whether axis words add to where the axis stands.
 pub fn is_incremental(distance: Distance) -> bool
     ensures { result ≡ is_incremental distance }
 {
-    match distance {
-        Distance::Absolute => false,
-        Distance::Incremental => true,
-    }
+    distance == Distance::Incremental
 }

@@ -2,6 +2,7 @@
 ghost use Rattle.std.specs.Prelude.{◌≡◌};
 ghost use Rattle.workpiece.specs.Places.{opened_at, opened as opened_where, all_open, standing as standing_by, placed_at};
 
+use crate::axes::by_axis;
 use reader::functions::Distance;
 use units::quantity::Length;
 
@@ -22,29 +23,17 @@ fn opened_at(touched: bool, value: Option<Length>) -> Option<Length>
 pub fn opened(touched: [bool; 3], values: [Option<Length>; 3]) -> [Option<Length>; 3]
     ensures { result ≡ opened_where touched values }
 {
-    [
-        opened_at(touched[0], values[0]),
-        opened_at(touched[1], values[1]),
-        opened_at(touched[2], values[2]),
-    ]
+    by_axis(touched, values, opened_at)
 }
 
 /// Where an axis stands after its word, in units; none where it is open. The sum of G91 may be out of range.
 pub fn standing(distance: Distance, word: Option<Length>, value: Option<Length>) -> Option<i64>
     ensures { result ≡ standing_by distance word value }
 {
-    match word {
-        None => match value {
-            None => None,
-            Some(v) => Some(v.units),
-        },
-        Some(w) => match distance {
-            Distance::Absolute => Some(w.units),
-            Distance::Incremental => match value {
-                None => None,
-                Some(v) => Some(v.units + w.units),
-            },
-        },
+    match (distance, word) {
+        (_, None) => value.map(|v| v.units),
+        (Distance::Absolute, Some(w)) => Some(w.units),
+        (Distance::Incremental, Some(w)) => value.map(|v| v.units + w.units),
     }
 }
 
@@ -52,8 +41,5 @@ pub fn standing(distance: Distance, word: Option<Length>, value: Option<Length>)
 pub fn placed_at(units: Option<i64>) -> Option<Length>
     ensures { result ≡ placed_at units }
 {
-    match units {
-        Some(z) => Length::new(z),
-        None => None,
-    }
+    units.and_then(Length::new)
 }

@@ -2,15 +2,15 @@
 ghost use Rattle.std.specs.Prelude.{◌≡◌};
 ghost use Rattle.chains.specs.Chains.{steps_of};
 ghost use Rattle.workpiece.specs.Settable.{records_of};
-ghost use Rattle.workpiece.specs.Plans.{named_by, moved_in, standings, is_open, is_far, first_of, placed as placed_by, length_or, values_or, image_in, kept_at, kept_spread, kept_image, reckoned, opening_all};
+ghost use Rattle.workpiece.specs.Plans.{named_by, moved_in, standings, is_open, is_far, values_at, placed as placed_by, values_or, image_in, kept_at, kept, kept_image, reckoned, opening_all};
 
+use crate::axes::{by_axis, first_of};
 use crate::force::InForce;
 use crate::places::{all_open, placed_at, standing};
 use crate::setup::Frames;
 use blocks::types::Distance;
 use frames::image::Image;
 use frames::push::{push, unpushed};
-use units::axis::Axis;
 use units::fault::Fault;
 use units::quantity::Length;
 
@@ -27,12 +27,9 @@ impl Plan {
     pub fn opening_all(self) -> Plan
         ensures { result ≡ opening_all self }
     {
-        let moved = self.moved;
-        let values = all_open();
         Plan {
-            moved,
-            values,
-            image: self.image,
+            values: all_open(),
+            ..self
         }
     }
 }
@@ -40,7 +37,7 @@ impl Plan {
 fn named_by(words: [Option<Length>; 3]) -> [bool; 3]
     ensures { result ≡ named_by words }
 {
-    [words[0].is_some(), words[1].is_some(), words[2].is_some()]
+    words.map(|word| word.is_some())
 }
 
 fn standings_of(
@@ -50,11 +47,7 @@ fn standings_of(
 ) -> [Option<i64>; 3]
     ensures { result ≡ standings distance words values }
 {
-    [
-        standing(distance, words[0], values[0]),
-        standing(distance, words[1], values[1]),
-        standing(distance, words[2], values[2]),
-    ]
+    by_axis(words, values, |word, value| standing(distance, word, value))
 }
 
 fn is_open(moved: bool, at: Option<i64>) -> bool
@@ -66,98 +59,62 @@ fn is_open(moved: bool, at: Option<i64>) -> bool
 fn is_far(moved: bool, at: Option<i64>) -> bool
     ensures { result ≡ is_far moved at }
 {
-    match at {
-        Some(z) => moved && z.unsigned_abs() > Length::MOST,
-        None => false,
-    }
+    at.is_some_and(|z| moved && z.unsigned_abs() > Length::MOST)
 }
 
-fn first_of(x: bool, y: bool, z: bool) -> Option<Axis>
-    ensures { result ≡ first_of x y z }
+fn values_at(at: [Option<i64>; 3]) -> [Option<Length>; 3]
+    ensures { result ≡ values_at at }
 {
-    if x {
-        return Some(Axis::X);
-    }
-    if y {
-        return Some(Axis::Y);
-    }
-    if z {
-        return Some(Axis::Z);
-    }
-    None
+    at.map(placed_at)
 }
 
 // 12, then 13 at step 0, over the moved axes.
 fn placed(moved: [bool; 3], at: [Option<i64>; 3]) -> Result<[Option<Length>; 3], Fault>
     ensures { result ≡ placed_by moved at }
 {
-    if let Some(axis) = first_of(
-        is_open(moved[0], at[0]),
-        is_open(moved[1], at[1]),
-        is_open(moved[2], at[2]),
-    ) {
+    if let Some(axis) = first_of(by_axis(moved, at, is_open)) {
         return Err(Fault::Open { place: 0, axis });
     }
-    if let Some(axis) = first_of(
-        is_far(moved[0], at[0]),
-        is_far(moved[1], at[1]),
-        is_far(moved[2], at[2]),
-    ) {
+    if let Some(axis) = first_of(by_axis(moved, at, is_far)) {
         return Err(Fault::Beyond {
             place: 0,
             axis,
             step: 0,
         });
     }
-    Ok([placed_at(at[0]), placed_at(at[1]), placed_at(at[2])])
-}
-
-fn length_or(value: Option<Length>) -> Length
-    ensures { result ≡ length_or value }
-{
-    match value {
-        Some(length) => length,
-        None => Length::zero(),
-    }
+    Ok(values_at(at))
 }
 
 fn values_or(values: [Option<Length>; 3]) -> [Length; 3]
     ensures { result ≡ values_or values }
 {
-    [
-        length_or(values[0]),
-        length_or(values[1]),
-        length_or(values[2]),
-    ]
+    values.map(|value| value.unwrap_or(Length::zero()))
 }
 
-fn kept_at(moved: bool, new: i64, old: i64) -> i64
+fn kept_at<T: Copy>(moved: bool, new: T, old: T) -> T
     ensures { result ≡ kept_at moved new old }
 {
     if moved { new } else { old }
 }
 
-fn kept_spread(moved: bool, new: u64, old: u64) -> u64
-    ensures { result ≡ kept_spread moved new old }
+// By hand: the proof of a closure over the index does not close for signed numbers.
+fn kept<T: Copy>(moved: [bool; 3], new: [T; 3], old: [T; 3]) -> [T; 3]
+    ensures { (d : T) → result ≡ kept d moved new old }
 {
-    if moved { new } else { old }
+    [
+        kept_at(moved[0], new[0], old[0]),
+        kept_at(moved[1], new[1], old[1]),
+        kept_at(moved[2], new[2], old[2]),
+    ]
 }
 
 // An axis that does not move keeps target and spread.
-fn kept_image(m: [bool; 3], new: Image, old: Image) -> Image
-    ensures { result ≡ kept_image m new old }
+fn kept_image(moved: [bool; 3], new: Image, old: Image) -> Image
+    ensures { result ≡ kept_image moved new old }
 {
     Image {
-        at: [
-            kept_at(m[0], new.at[0], old.at[0]),
-            kept_at(m[1], new.at[1], old.at[1]),
-            kept_at(m[2], new.at[2], old.at[2]),
-        ],
-        spread: [
-            kept_spread(m[0], new.spread[0], old.spread[0]),
-            kept_spread(m[1], new.spread[1], old.spread[1]),
-            kept_spread(m[2], new.spread[2], old.spread[2]),
-        ],
+        at: kept(moved, new.at, old.at),
+        spread: kept(moved, new.spread, old.spread),
     }
 }
 
@@ -166,9 +123,10 @@ impl Frames {
         ensures { result ≡ moved_in force (steps_of self.now.chain) named }
     {
         if force.chained {
-            return self.chain.moved_axes(named);
+            self.chain.moved_axes(named)
+        } else {
+            named
         }
-        named
     }
 
     fn image_in(
@@ -180,15 +138,11 @@ impl Frames {
         ensures { result ≡ image_in force (steps_of self.now.chain) (records_of self.now.settable) self.now.tolerance moved values }
     {
         if force.chained {
-            return push(
-                &self.chain,
-                moved,
-                values,
-                self.settable.offset(force.settable),
-                self.tolerance,
-            );
+            let offset = self.settable.offset(force.settable);
+            push(&self.chain, moved, values, offset, self.tolerance)
+        } else {
+            Ok(unpushed(values))
         }
-        Ok(unpushed(values))
     }
 
     /// The plan of a block's axis words under what is in force; 12, 13 and 14 in their order.
@@ -203,16 +157,12 @@ impl Frames {
         ensures { result ≡ reckoned force (steps_of self.now.chain) (records_of self.now.settable) self.now.tolerance distance words values image }
     {
         let moved = self.moved_in(force, named_by(words));
-        match placed(moved, standings_of(distance, words, values)) {
-            Ok(values) => match self.image_in(force, moved, values_or(values)) {
-                Ok(new) => Ok(Plan {
-                    moved,
-                    values,
-                    image: kept_image(moved, new, image),
-                }),
-                Err(fault) => Err(fault),
-            },
-            Err(fault) => Err(fault),
-        }
+        let values = placed(moved, standings_of(distance, words, values))?;
+        let pushed = self.image_in(force, moved, values_or(values))?;
+        Ok(Plan {
+            moved,
+            values,
+            image: kept_image(moved, pushed, image),
+        })
     }
 }

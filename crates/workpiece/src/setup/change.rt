@@ -3,6 +3,7 @@ ghost use Rattle.std.specs.Prelude.{◌≡◌};
 ghost use Rattle.workpiece.specs.Setup.{setup_of};
 ghost use Rattle.workpiece.specs.Changes.{step_in, either_of, emptied, replaced_by, lengthened_by, changed, told_of, left_of};
 
+use crate::axes::by_axis;
 use crate::places::opened;
 use crate::setup::Setup;
 use blocks::types::{FrameChange, FrameStep};
@@ -25,7 +26,7 @@ fn step_in(plane: Plane, step: FrameStep) -> Step
 fn either(a: [bool; 3], b: [bool; 3]) -> [bool; 3]
     ensures { result ≡ either_of a b }
 {
-    [a[0] || b[0], a[1] || b[1], a[2] || b[2]]
+    by_axis(a, b, |a, b| a || b)
 }
 
 impl Setup {
@@ -48,13 +49,9 @@ impl Setup {
         ensures told { result ≡ told_of (lengthened_by (setup_of self.old) step) }
         ensures left { setup_of self.new ≡ left_of (setup_of self.old) (lengthened_by (setup_of self.old) step) }
     {
-        match self.frames.chain.append(step) {
-            Ok(()) => {
-                self.values = opened(step.touched(), self.values);
-                Ok(())
-            }
-            Err(fault) => Err(fault),
-        }
+        self.frames.chain.append(step)?;
+        self.values = opened(step.touched(), self.values);
+        Ok(())
     }
 
     /// A frame instruction: the chain after it, and the axes that it opens. A ninth step gets 10 and changes nothing.

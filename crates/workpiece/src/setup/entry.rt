@@ -2,10 +2,10 @@
 ghost use Rattle.std.specs.Prelude.{◌≡◌, List, [], ◌∷◌};
 ghost use Rattle.workpiece.specs.Setup.{setup_of};
 ghost use Rattle.workpiece.specs.Changes.{told_of, left_of};
-ghost use Rattle.workpiece.specs.Entries.{lengths_of, opened_if, entered_at, entered_by};
+ghost use Rattle.workpiece.specs.Entries.{lengths_of, entered_at, entered_by};
 
 use crate::places::all_open;
-use crate::settable::table::{frame_number, numbered_frame};
+use crate::settable::table::numbered_frame;
 use crate::setup::Setup;
 use blocks::types::Settable;
 use units::axis::Point;
@@ -15,25 +15,7 @@ use units::quantity::Length;
 fn lengths(p: Point) -> Option<[Length; 3]>
     ensures { result ≡ lengths_of p }
 {
-    let Some(x) = Length::new(p.x) else {
-        return None;
-    };
-    let Some(y) = Length::new(p.y) else {
-        return None;
-    };
-    let Some(z) = Length::new(p.z) else {
-        return None;
-    };
-    Some([x, y, z])
-}
-
-fn opened_if(selected: bool, values: [Option<Length>; 3]) -> [Option<Length>; 3]
-    ensures { result ≡ opened_if selected values }
-{
-    if selected {
-        return all_open();
-    }
-    values
+    Some([Length::new(p.x)?, Length::new(p.y)?, Length::new(p.z)?])
 }
 
 impl Setup {
@@ -41,8 +23,9 @@ impl Setup {
     fn enter_at(&mut self, settable: Settable, offset: [Length; 3])
         ensures { setup_of self.new ≡ entered_at (setup_of self.old) settable offset }
     {
-        let selected = frame_number(settable) == frame_number(self.force.settable);
-        self.values = opened_if(selected, self.values);
+        if settable == self.force.settable {
+            self.values = all_open();
+        }
         self.frames.settable.enter(settable, offset);
     }
 
@@ -51,12 +34,8 @@ impl Setup {
         ensures told { result ≡ told_of (entered_by (setup_of self.old) frame offset) }
         ensures left { setup_of self.new ≡ left_of (setup_of self.old) (entered_by (setup_of self.old) frame offset) }
     {
-        let Some(settable) = numbered_frame(frame) else {
-            return Err(Fault::Argument);
-        };
-        let Some(offset) = lengths(offset) else {
-            return Err(Fault::Argument);
-        };
+        let settable = numbered_frame(frame).ok_or(Fault::Argument)?;
+        let offset = lengths(offset).ok_or(Fault::Argument)?;
         self.enter_at(settable, offset);
         Ok(())
     }

@@ -33,16 +33,14 @@ impl Setup {
             return Err(Fault::IncrementalMachine { place });
         }
         let guard = MachineCoordinates::over(&mut self.force);
-        match self.frames.reckon(
+        let plan = self.frames.reckon(
             guard.standing(),
             distance,
             block.words,
             all_open(),
             self.image,
-        ) {
-            Ok(plan) => Ok(plan.opening_all()),
-            Err(fault) => Err(fault),
-        }
+        )?;
+        Ok(plan.opening_all())
     }
 
     /// What an ordinary block with axis words moves, under its own selections; 11 to 14 in their order, told at place 0 but for 11.
@@ -63,8 +61,7 @@ impl Setup {
         self.modes = self.modes.selected(block.selections);
         self.force = self.force.selected(block.selections.settable);
         self.ended = block.ends || self.ended;
-        let values = plan.values;
-        let image = plan.image;
+        let Plan { values, image, .. } = plan;
         self.values = values;
         self.image = image;
     }

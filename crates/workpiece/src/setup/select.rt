@@ -2,25 +2,17 @@
 ghost use Rattle.std.specs.Prelude.{◌≡◌};
 ghost use Rattle.workpiece.specs.Setup.{setup_of, started, after_reset};
 ghost use Rattle.workpiece.specs.Selects.{opened_by, selected};
-ghost use Rattle.workpiece.specs.Force.{another_frame};
 
 use crate::force::InForce;
 use crate::modes::Modes;
 use crate::places::all_open;
 use crate::settable::SettableFrames;
-use crate::settable::table::frame_number;
 use crate::setup::{Frames, Setup};
 use blocks::types::Ordinary;
 use chains::chain::Chain;
 use frames::image::Image;
 use units::axis::Point;
 use units::quantity::{Length, Tolerance};
-
-fn another_frame(before: InForce, after: InForce) -> bool
-    ensures { result ≡ another_frame before after }
-{
-    frame_number(before.settable) != frame_number(after.settable)
-}
 
 /// Selecting another settable frame opens all axes.
 pub fn opened_by(
@@ -30,10 +22,11 @@ pub fn opened_by(
 ) -> [Option<Length>; 3]
     ensures { result ≡ opened_by before after values }
 {
-    if another_frame(before, after) {
-        return all_open();
+    if before.settable == after.settable {
+        values
+    } else {
+        all_open()
     }
-    values
 }
 
 impl Setup {

@@ -9,4 +9,4 @@ returns c =
     let fx : SFits w64 c.args.p.x = search rules in
     let fy : SFits w64 c.args.p.y = search rules in
     let fz : SFits w64 c.args.p.z = search rules in
-    three_made c.args.p _ _ _ (c.in-Some.ensures ∙ ap length_of (to_z-of_z w64 c.args.p.x fx)) (c.in-Some-new.ensures ∙ ap length_of (to_z-of_z w64 c.args.p.y fy)) (c.in-Some-new-2.ensures ∙ ap length_of (to_z-of_z w64 c.args.p.z fz))
+    three_made c.args.p _ _ _ (c.in_ok-new.ensures ∙ ap length_of (to_z-of_z w64 c.args.p.x fx)) (c.in_ok-new-2.ensures ∙ ap length_of (to_z-of_z w64 c.args.p.y fy)) (c.in_ok-new-3.ensures ∙ ap length_of (to_z-of_z w64 c.args.p.z fz))

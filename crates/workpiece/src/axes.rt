@@ -1,0 +1,26 @@
+// Values by axis, in the order X, Y, Z.
+ghost use Rattle.std.specs.Prelude.{◌≡◌, false, slice_index_or};
+ghost use Rattle.workpiece.specs.Axes.{ByAxis};
+ghost use Rattle.workpiece.specs.Plans.{first_of};
+
+use units::axis::Axis;
+
+/// What the function gives of the two values of each axis.
+pub fn by_axis<A: Copy, B: Copy, C, F: Fn(A, B) -> C>(a: [A; 3], b: [B; 3], of: F) -> [C; 3]
+    requires { F.IsAlwaysCallable of }
+    ensures { ByAxis (F.post of) a b result }
+{
+    [of(a[0], b[0]), of(a[1], b[1]), of(a[2], b[2])]
+}
+
+/// The first axis that has the property.
+pub fn first_of(has: [bool; 3]) -> Option<Axis>
+    ensures { result ≡ first_of (slice_index_or has 0 false) (slice_index_or has 1 false) (slice_index_or has 2 false) }
+{
+    match has {
+        [true, _, _] => Some(Axis::X),
+        [_, true, _] => Some(Axis::Y),
+        [_, _, true] => Some(Axis::Z),
+        _ => None,
+    }
+}
