@@ -1,14 +1,18 @@
 -- A word cut off a line at its first space.
-use Rattle.std.proofs.Common.{◌≡◌, ℕ, suc, ◌-◌, ◌<◌, List, ◌∷◌, ◌++◌, length, get_or, take, drop, Some, Option, sym, ap, ◌∙◌, subst, arith, take-append-drop, length-take, drop-cons, get_or-take}
+use Rattle.std.proofs.Common.{◌≡◌, ℕ, suc, ◌+◌, ◌-◌, ◌<◌, ◌≢◌, List, ◌∷◌, ◌++◌, length, get_or, take, drop, Some, Option, sym, ap, ◌∙◌, subst, arith, take-append-drop, length-take, length-drop, drop-cons, get_or-take, add-one}
+use Rattle.std.specs.List.{HoldsAt, AllWithin}
 use Rattle.std.proofs.lemmas.List.{take_all}
 use Rattle.script.specs.Words.{NoSpace, Took}
 
-tail_of_lem : (xs ys : List ℕ) (x : ℕ) → xs ≡ x ∷ ys → xs ≡ x ∷ take (length xs - 1) (drop 1 xs)
-tail_of_lem xs ys x e = e ∙ ap (λ l. x ∷ l) (sym (take_all (suc (length ys) - 1) ys (omega arith)) ∙ ap (λ l. take (length l - 1) (drop 1 l)) (sym e))
+behind : (line : List ℕ) (n : ℕ) → n < length line → get_or line n 0 ≡ 32 → drop n line ≡ 32 ∷ take (length line - (n + 1)) (drop (n + 1) line)
+behind line n h s =
+    let d = length-drop (n + 1) line in
+    let t = take_all (length line - (n + 1)) (drop (n + 1) line) (omega arith) in
+    drop-cons line n 0 h ∙ ap (λ (x : ℕ). x ∷ drop (suc n) line) s ∙ ap (λ (l : List ℕ). 32 ∷ l) (ap (λ (k : ℕ). drop k line) (sym (add-one n)) ∙ sym t)
 
-pub parted : (line : List ℕ) (n : ℕ) (w more : List ℕ) (before : Option (List ℕ)) → before ≡ Some line → n < length line → get_or line n 0 ≡ 32 → ((k : ℕ) → k < n → get_or line k 0 ≡ 32 → ⊥) → w ≡ take n line → more ≡ drop n line → Took before (Some w) (Some (take (length more - 1) (drop 1 more)))
-parted line n w more before b h s f ew em =
-    let cut : more ≡ 32 ∷ take (length more - 1) (drop 1 more) = tail_of_lem more (drop (suc n) line) 32 (em ∙ drop-cons line n 0 h ∙ ap (λ (x : ℕ). x ∷ drop (suc n) line) s) in
-    let whole : line ≡ w ++ 32 ∷ take (length more - 1) (drop 1 more) = sym (take-append-drop n line) ∙ ap (λ l. l ++ drop n line) (sym ew) ∙ ap (λ l. w ++ l) (sym em ∙ cut) in
-    let none : NoSpace w = subst NoSpace (sym ew) (λ k l e. let t = length-take n line in let below : k < n = omega arith in f k below (sym (get_or-take n line k 0 below) ∙ e)) in
-    subst (λ (o : Option (List ℕ)). Took o (Some w) (Some (take (length more - 1) (drop 1 more)))) (sym b) (whole, none)
+-- of the first space, at n
+pub parted : (line : List ℕ) (n : ℕ) (before : Option (List ℕ)) → before ≡ Some line → (n < length line) × HoldsAt (λ b. b ≡ 32) line n × AllWithin (λ b. b ≢ 32) line 0 n → Took before (Some (take n line)) (Some (take (length line - (n + 1)) (drop (n + 1) line)))
+parted line n before b f =
+    let whole : line ≡ take n line ++ 32 ∷ take (length line - (n + 1)) (drop (n + 1) line) = sym (take-append-drop n line) ∙ ap (λ (l : List ℕ). take n line ++ l) (behind line n f.0 (f.1 0)) in
+    let none : NoSpace (take n line) = λ k l i. let t = length-take n line in let below : k < n = omega arith in f.2 k 0 (omega arith) below (sym (get_or-take n line k 0 below) ∙ i) in
+    subst (λ (o : Option (List ℕ)). Took o (Some (take n line)) (Some (take (length line - (n + 1)) (drop (n + 1) line)))) (sym b) (whole, none)

@@ -1,7 +1,8 @@
 // From a line to its call.
-use crate::call::{Asked, Call, Limits};
+use crate::call::{Call, Limits};
 use crate::number::number;
 use crate::words::Words;
+use questions::question::Question;
 use units::axis::{Point, Side};
 
 impl<'a> Words<'a> {
@@ -10,11 +11,7 @@ impl<'a> Words<'a> {
     }
 
     fn take_count(&mut self) -> Option<u64> {
-        let n = self.take_number()?;
-        if n < 0 {
-            return None;
-        }
-        Some(n as u64)
+        u64::try_from(self.take_number()?).ok()
     }
 
     fn take_point(&mut self) -> Option<Point> {
@@ -66,22 +63,22 @@ impl<'a> Words<'a> {
         }
     }
 
-    fn take_question(&mut self) -> Option<Asked> {
+    fn take_question(&mut self) -> Option<Question> {
         match self.take_word()? {
-            b"boxes" => Some(Asked::Boxes),
+            b"boxes" => Some(Question::Boxes),
             b"limit" => {
                 let level = self.take_number()?;
                 let axis = self.take_number()?;
                 let side = self.take_side()?;
-                Some(Asked::Limit { level, axis, side })
+                Some(Question::Limit { level, axis, side })
             }
-            b"increment" => Some(Asked::Increment {
+            b"increment" => Some(Question::Increment {
                 axis: self.take_number()?,
             }),
-            b"held" => Some(Asked::Held {
+            b"held" => Some(Question::Held {
                 axis: self.take_number()?,
             }),
-            b"move" => Some(Asked::Move(self.take_point()?)),
+            b"move" => Some(Question::Move(self.take_point()?)),
             _ => None,
         }
     }
@@ -135,9 +132,5 @@ pub fn call(line: &[u8]) -> Option<Call<'_>> {
 
 /// An empty line or a remark.
 pub fn passed_over(line: &[u8]) -> bool {
-    match line {
-        [] => true,
-        [b'#', ..] => true,
-        _ => false,
-    }
+    matches!(line, [] | [b'#', ..])
 }

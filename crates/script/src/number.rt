@@ -7,22 +7,11 @@ fn extended(value: u64, b: u8, most: u64) -> Option<u64>
     requires { most ≤ 9223372036854775808 }
     ensures { result ≡ extended_by most value b }
 {
-    if b < b'0' {
+    if !matches!(b, b'0'..=b'9') {
         return None;
     }
-    if b > b'9' {
-        return None;
-    }
-    let Some(tens) = value.checked_mul(10) else {
-        return None;
-    };
-    let Some(next) = tens.checked_add(u64::from(b - b'0')) else {
-        return None;
-    };
-    if next > most {
-        return None;
-    }
-    Some(next)
+    let next = value.checked_mul(10)?.checked_add(u64::from(b - b'0'))?;
+    if next > most { None } else { Some(next) }
 }
 
 // Digits alone, at least one, no larger than `most`.
@@ -30,15 +19,12 @@ fn magnitude(digits: &[u8], most: u64) -> Option<u64>
     requires { most ≤ 9223372036854775808 }
     ensures { result ≡ magnitude_of most digits.now }
 {
-    if digits.len() == 0 {
+    if digits.is_empty() {
         return None;
     }
-    let mut value: u64 = 0;
-    for i in 0..digits.len() {
-        match extended(value, digits[i], most) {
-            Some(next) => value = next,
-            None => return None,
-        }
+    let mut value = 0;
+    for b in digits {
+        value = extended(value, *b, most)?;
     }
     Some(value)
 }
@@ -58,14 +44,7 @@ pub fn number(word: &[u8]) -> Option<i64>
     ensures { result ≡ number_of word.now }
 {
     match word {
-        [] => None,
-        [b'-', digits @ ..] => match magnitude(digits, 1 << 63) {
-            Some(n) => Some(negative(n)),
-            None => None,
-        },
-        [_, ..] => match magnitude(word, i64::MAX as u64) {
-            Some(n) => Some(n as i64),
-            None => None,
-        },
+        [b'-', digits @ ..] => magnitude(digits, 1 << 63).map(negative),
+        _ => magnitude(word, i64::MAX as u64).map(|n| n as i64),
     }
 }

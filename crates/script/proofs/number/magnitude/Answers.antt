@@ -1,15 +1,10 @@
-use Rattle.std.proofs.Common.{get_or, sym, ◌∙◌, arith}
-use Rattle.script.proofs.Digits.{went_on, stopped, begins, ends, extended_most}
+use Rattle.std.proofs.Common.{◌≡◌, get_or, None, arith, rules}
+use Rattle.script.specs.Numbers.{extended_by}
+use Rattle.script.proofs.Digits.{stopped, begins}
 use Rattle.script.proofs.number.magnitude.Goals as goal
 
-pub returns-in-None : goal.returns-in-None
-returns-in-None c =
-    sym (begins c.args.most c.args.digits.now (omega arith) ∙ c.loop-i.invariant.0 ∙ stopped _ _ c.loop-i.i c.args.digits.now c.loop-i-test.true (sym c.in-None.ensures))
-
-pub loop-i-preserved : goal.loop-i-preserved
-loop-i-preserved c =
-    (c.loop-i.invariant.0 ∙ went_on _ _ _ c.loop-i.i c.args.digits.now c.loop-i-test.true (sym c.in-Some.ensures), extended_most _ c.loop-i.value (get_or c.args.digits.now c.loop-i.i 0) _ (sym c.in-Some.ensures))
-
-pub returns : goal.returns
-returns c =
-    sym (begins c.args.most c.args.digits.now (omega arith) ∙ c.loop-i.invariant.0 ∙ ends _ _ c.loop-i.i c.args.digits.now c.loop-i-test.false c.loop-i.invariant.1)
+pub returns-in_err-value : goal.returns-in_err-value
+returns-in_err-value c =
+    let ds = c.args.digits.now in
+    let e : extended_by c.args.most c.loop-b.value (get_or ds c.loop-b.b-index 0) ≡ None = search rules in
+    cc (begins c.args.most ds (omega arith), stopped c.args.most c.loop-b.value c.loop-b.b-index ds c.loop-b-test.true e)
