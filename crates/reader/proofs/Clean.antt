@@ -1,5 +1,5 @@
 -- A well-shaped word has no byte that is not allowed; an N word is well shaped.
-use Rattle.std.proofs.Common.{◌≡◌, ℕ, zero, suc, ◌+◌, ◌-◌, ◌<◌, Bool, true, false, cond, ◌||◌, List, [], ◌∷◌, map, length, get_or, take, drop, sym, refl, ap, ◌∙◌, subst, ⊎_elim, arith, length-drop}
+use Rattle.std.proofs.Common.{◌≡◌, ℕ, zero, suc, ◌+◌, ◌-◌, ◌<◌, Bool, true, false, cond, ◌||◌, ◌⊎◌, List, [], ◌∷◌, map, length, get_or, take, drop, sym, refl, ap, ◌∙◌, subst, ⊎_elim, arith, length-drop}
 use Rattle.std.specs.Char.{is_ascii_digit, is_ascii_alphabetic, to_ascii_uppercase}
 use Rattle.std.specs.List.{prefix_len, AllByRecursion}
 use Rattle.std.proofs.ByRecursion.{All-weaker}
@@ -96,7 +96,12 @@ no_letters r h = leading_is is_ascii_alphabetic r 0 (omega arith) (λ k l. absur
 one_letter : (b : ℕ) (r : List ℕ) → is_ascii_alphabetic b ≡ true → IsCode r → letters_of (b ∷ r) ≡ 1
 one_letter b r y h = ap (λ z. cond z (1 + prefix_len is_ascii_alphabetic r) 0) y ∙ ap (λ n. 1 + n) (no_letters r h)
 
-pub n_word : (w r : List ℕ) (b : ℕ) → w ≡ b ∷ r → is_ascii_alphabetic b ≡ true → to_ascii_uppercase b ≡ 78 → IsCode r → NWord w
-n_word w r b e y u h =
-    let one = one_letter b r y h in
-    subst NWord (sym e) (subst (λ n. (map to_ascii_uppercase (take n (b ∷ r)) ≡ 78 ∷ []) × IsCode (drop n (b ∷ r))) (sym one) (ap (λ v. v ∷ []) u, h))
+-- N or n
+n_letter : (b : ℕ) → (b ≡ 78) ⊎ (b ≡ 110) → (is_ascii_alphabetic b ≡ true) × (to_ascii_uppercase b ≡ 78)
+n_letter b n = ⊎_elim (λ e. (ap is_ascii_alphabetic e, ap to_ascii_uppercase e)) (λ e. (ap is_ascii_alphabetic e, ap to_ascii_uppercase e)) n
+
+pub n_word : (w r : List ℕ) (b : ℕ) → w ≡ b ∷ r → (b ≡ 78) ⊎ (b ≡ 110) → IsCode r → NWord w
+n_word w r b e n h =
+    let y = n_letter b n in
+    let one = one_letter b r y.0 h in
+    subst NWord (sym e) (subst (λ n. (map to_ascii_uppercase (take n (b ∷ r)) ≡ 78 ∷ []) × IsCode (drop n (b ∷ r))) (sym one) (ap (λ v. v ∷ []) y.1, h))

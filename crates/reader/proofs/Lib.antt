@@ -4,6 +4,7 @@ pub mod Names
 pub mod Listed
 pub mod Fronts
 pub mod Clean
+pub mod Faults
 pub mod Says
 pub mod Standing
 pub mod Meaning

@@ -1,8 +1,8 @@
 -- Letters that spell an address.
-use Rattle.std.proofs.Common.{◌≡◌, ℕ, ◌<◌, ◌≤◌, true, false, List, [], ◌∷◌, map, length, get_or, codes, Decides, sym, refl, ap, ◌∙◌, arith}
-use Rattle.std.specs.Char.{to_ascii_uppercase}
-use Rattle.std.proofs.lemmas.List.{length-map, get_or-map, ext_get_or}
-use Rattle.std.proofs.lemmas.Bool.{false≢true}
+use Rattle.std.proofs.Common.{◌≡◌, ◌↔◌, ℕ, ◌<◌, ◌≤◌, Bool, IsTrue, List, [], ◌∷◌, map, length, get_or, codes, Decides, sym, refl, ap, ◌∙◌, arith}
+use Rattle.std.specs.Char.{to_ascii_lowercase, to_ascii_uppercase}
+use Rattle.std.proofs.lemmas.List.{length-map}
+use Rattle.std.proofs.lemmas.Bool.Decides.{nat_tests}
 use Rattle.reader.specs.declared.types.Address.{Address}
 use Rattle.units.specs.declared.axis.Axis.TheVariants.{X, Y, Z}
 use Rattle.reader.specs.declared.types.Address.TheVariants.{N, G, M, Passed, Axis, Rpl, Name}
@@ -10,15 +10,34 @@ use Rattle.reader.specs.declared.types.Passed.TheVariants.{F, S, T, D}
 use Rattle.reader.specs.declared.types.FrameName.{FrameName}
 use Rattle.reader.specs.Words.{Names, frame_name}
 
-module _ (s n : List ℕ) where
-  pub differ_length : (length s ≡ length n → ⊥) → Decides false (map to_ascii_uppercase s ≡ n)
-  differ_length h = (λ e. absurd (false≢true e), λ e. absurd (h (sym (length-map s to_ascii_uppercase) ∙ ap length e)))
+lower_same : (a b : ℕ) → to_ascii_lowercase a ≡ to_ascii_lowercase b → to_ascii_uppercase a ≡ to_ascii_uppercase b
+lower_same a b e = grind (arith, nat_tests)
 
-  pub differ_at : (i : ℕ) → i < length s → (to_ascii_uppercase (get_or s i 0) ≡ get_or n i 0 → ⊥) → Decides false (map to_ascii_uppercase s ≡ n)
-  differ_at i l h = (λ e. absurd (false≢true e), λ e. absurd (h (sym (get_or-map to_ascii_uppercase s i 0 0 l) ∙ ap (λ t. get_or t i 0) e)))
+upper_same : (a b : ℕ) → to_ascii_uppercase a ≡ to_ascii_uppercase b → to_ascii_lowercase a ≡ to_ascii_lowercase b
+upper_same a b e = grind (arith, nat_tests)
 
-  pub alike : length s ≡ length n → ((k : ℕ) → k < length s → to_ascii_uppercase (get_or s k 0) ≡ get_or n k 0) → Decides true (map to_ascii_uppercase s ≡ n)
-  alike e h = (λ _. ext_get_or 0 (map to_ascii_uppercase s) n (length-map s to_ascii_uppercase ∙ e) (λ i l. let g : i < length s = omega (arith, length-map s to_ascii_uppercase) in get_or-map to_ascii_uppercase s i 0 0 g ∙ h i g), λ _. refl)
+-- texts are alike in small letters exactly where they are in capital ones
+lowers_same : (s n : List ℕ) → map to_ascii_lowercase s ≡ map to_ascii_lowercase n → map to_ascii_uppercase s ≡ map to_ascii_uppercase n
+lowers_same [] [] e = refl
+lowers_same [] (b ∷ n) e = absurd (cc)
+lowers_same (a ∷ s) [] e = absurd (cc)
+lowers_same (a ∷ s) (b ∷ n) e =
+    let x : to_ascii_lowercase a ≡ to_ascii_lowercase b = cc in
+    let y : map to_ascii_lowercase s ≡ map to_ascii_lowercase n = cc in
+    cc (lower_same a b x, lowers_same s n y)
+
+uppers_same : (s n : List ℕ) → map to_ascii_uppercase s ≡ map to_ascii_uppercase n → map to_ascii_lowercase s ≡ map to_ascii_lowercase n
+uppers_same [] [] e = refl
+uppers_same [] (b ∷ n) e = absurd (cc)
+uppers_same (a ∷ s) [] e = absurd (cc)
+uppers_same (a ∷ s) (b ∷ n) e =
+    let x : to_ascii_uppercase a ≡ to_ascii_uppercase b = cc in
+    let y : map to_ascii_uppercase s ≡ map to_ascii_uppercase n = cc in
+    cc (upper_same a b x, uppers_same s n y)
+
+-- and a name is written in capital ones
+pub alike : (r : Bool) (s n : List ℕ) → map to_ascii_uppercase n ≡ n → IsTrue r ↔ (map to_ascii_lowercase s ≡ map to_ascii_lowercase n) → Decides r (map to_ascii_uppercase s ≡ n)
+alike r s n c h = (λ e. lowers_same s n (h.0 e) ∙ c, λ e. h.1 (uppers_same s n (e ∙ sym c)))
 
 pub one : (s : List ℕ) (u : ℕ) → 1 ≤ length s → length s < 2 → u ≡ to_ascii_uppercase (get_or s 0 0) → u ∷ [] ≡ map to_ascii_uppercase s
 one [] u l h e = absurd (omega arith)

@@ -1,4 +1,7 @@
 // What is read.
+ghost use Rattle.std.specs.Prelude.{◌≡◌, Some};
+ghost use Rattle.reader.specs.Words.{item_of, text_of};
+
 use crate::functions::{GFunction, MFunction};
 use units::axis::Axis;
 
@@ -113,9 +116,91 @@ pub enum Word<'a> {
     },
 }
 
+impl Said {
+    // The word that says this, in its part of the block and at its place.
+    pub(crate) fn word<'a>(self, text: &'a [u8], place: usize) -> Word<'a>
+        ensures item { item_of result ≡ Some (record { says = self; place = place }) }
+        ensures text { text_of result ≡ text.now }
+    {
+        match self {
+            Said::Name(name) => Word::Name { name, text, place },
+            Said::Axis(axis, number) => Word::Axis {
+                axis,
+                number,
+                text,
+                place,
+            },
+            Said::Rpl(number) => Word::Rpl {
+                number,
+                text,
+                place,
+            },
+            Said::G(function) => Word::G {
+                function,
+                text,
+                place,
+            },
+            Said::M(function) => Word::M {
+                function,
+                text,
+                place,
+            },
+            Said::N => Word::N { text, place },
+            Said::Passed(address) => Word::Passed {
+                address,
+                text,
+                place,
+            },
+        }
+    }
+}
+
+impl Word<'_> {
+    /// What a word says, without its bytes; the comment says nothing.
+    pub fn item(self) -> Option<Item>
+        ensures { result ≡ item_of self.entry }
+    {
+        let (says, place) = match self {
+            Word::Name { name, place, .. } => (Said::Name(name), place),
+            Word::Axis {
+                axis,
+                number,
+                place,
+                ..
+            } => (Said::Axis(axis, number), place),
+            Word::Rpl { number, place, .. } => (Said::Rpl(number), place),
+            Word::G {
+                function,
+                place,
+                ..
+            } => (Said::G(function), place),
+            Word::M {
+                function,
+                place,
+                ..
+            } => (Said::M(function), place),
+            Word::N { place, .. } => (Said::N, place),
+            Word::Passed { address, place, .. } => (Said::Passed(address), place),
+            Word::Comment { .. } => return None,
+        };
+        Some(Item { says, place })
+    }
+}
+
 // Why what follows an address is declined: an unlisted G number, or its first wrong byte.
-#[derive(Clone, Copy)]
+#[derive(Clone, Copy, PartialEq, Eq, Debug)]
 pub enum Ailment {
     Unlisted,
     At(usize),
+}
+
+impl From<usize> for Ailment {
+    ghost use Rattle.std.specs.Prelude.{◌≡◌};
+    ghost use Rattle.reader.specs.declared.types.Ailment.TheVariants.{At};
+
+    ghost from_gives = { λ i a. a ≡ At i };
+
+    fn from(wrong: usize) -> Ailment {
+        Ailment::At(wrong)
+    }
 }

@@ -4,13 +4,13 @@ ghost use Rattle.std.specs.Char.{to_ascii_uppercase};
 ghost use Rattle.reader.specs.declared.functions.GFunction.{GFunction as GFunctions};
 ghost use Rattle.reader.specs.declared.types.Address.{Address as Addresses};
 ghost use Rattle.reader.specs.declared.types.FrameName.{FrameName as FrameNames};
-ghost use Rattle.reader.specs.Words.{in_word, Clean, FirstBad, letters_of, tail_of, spelled, frame_name, Names, Follows, said, Says, g_number, m_function, item_of, WordIs, Declined};
+ghost use Rattle.reader.specs.Words.{in_word, Clean, FirstBad, letters_of, tail_of, spelled, frame_name, Names, Follows, said, Says, g_number, m_function, WordIs, Declined};
 ghost use Rattle.reader.specs.Shapes.{IsCode};
 ghost use Rattle.reader.specs.Following.{Ill, NWord};
 
 use crate::functions::{Distance, GFunction, LengthUnit, MFunction, Motion, Settable};
 use crate::number::{read_code, read_number, read_turn};
-use crate::types::{Address, Ailment, FrameName, Item, Passed, Said, Word};
+use crate::types::{Address, Ailment, FrameName, Passed, Said, Word};
 use units::axis::{Axis, Plane, Side};
 use units::fault::Fault;
 
@@ -23,22 +23,13 @@ fn allowed(b: u8) -> bool
 fn wrong_byte(s: &[u8]) -> Option<usize>
     ensures { MatchOption result (Clean s.now) (FirstBad s.now) }
 {
-    for (i, b) in s.iter().enumerate() {
-        if !allowed(*b) {
-            return Some(i);
-        }
-    }
-    None
+    s.iter().position(|b| !allowed(*b))
 }
 
 fn letters(s: &[u8]) -> usize
     ensures { result ≡ letters_of s.now }
 {
-    let mut n = 0;
-    while n < s.len() && s[n].is_ascii_alphabetic() {
-        n += 1;
-    }
-    n
+    s.iter().take_while(|b| b.is_ascii_alphabetic()).count()
 }
 
 // Capital and small letters mean the same.
@@ -49,17 +40,10 @@ fn capital(b: u8) -> u8
 }
 
 fn spells(s: &[u8], name: &[u8]) -> bool
+    requires { map to_ascii_uppercase name.now ≡ name.now }
     ensures { Decides result (map to_ascii_uppercase s.now ≡ name.now) }
 {
-    if s.len() != name.len() {
-        return false;
-    }
-    for i in 0..s.len() {
-        if capital(s[i]) != name[i] {
-            return false;
-        }
-    }
-    true
+    s.eq_ignore_ascii_case(name)
 }
 
 // The addresses of one letter.
@@ -111,16 +95,8 @@ pub fn address(s: &[u8]) -> Option<Address>
 {
     match s {
         [b] => letter(capital(*b) as char),
-        _ => {
-            if spells(s, b"RPL") {
-                Some(Address::Rpl)
-            } else {
-                match frame_name(s) {
-                    Some(f) => Some(Address::Name(f)),
-                    None => None,
-                }
-            }
-        }
+        _ if spells(s, b"RPL") => Some(Address::Rpl),
+        _ => frame_name(s).map(Address::Name),
     }
 }
 
@@ -165,28 +141,22 @@ fn m_function(code: u32) -> MFunction
 fn follow_g(tail: &[u8]) -> Result<Said, Ailment>
     ensures { MatchResult result (λ v. (said v ≡ Address.G) × Follows Address.G tail.now × Says tail.now v) (Ill Address.G tail.now) }
 {
-    match read_code(tail) {
-        Ok(code) => match g_function(code) {
-            Some(function) => Ok(Said::G(function)),
-            None => Err(Ailment::Unlisted),
-        },
-        Err(i) => Err(Ailment::At(i)),
-    }
+    let code = read_code(tail)?;
+    g_function(code).map(Said::G).ok_or(Ailment::Unlisted)
 }
 
 fn follow_passed(address: Passed, tail: &[u8]) -> Result<Said, Ailment>
     ensures { MatchResult result (λ v. (v ≡ Said.Passed address) × Follows (Address.Passed address) tail.now) (Ill (Address.Passed address) tail.now) }
 {
     match address {
-        Passed::T | Passed::D => match read_code(tail) {
-            Ok(_) => Ok(Said::Passed(address)),
-            Err(i) => Err(Ailment::At(i)),
-        },
-        Passed::F | Passed::S => match read_number(tail) {
-            Ok(_) => Ok(Said::Passed(address)),
-            Err(i) => Err(Ailment::At(i)),
-        },
+        Passed::T | Passed::D => {
+            read_code(tail)?;
+        }
+        Passed::F | Passed::S => {
+            read_number(tail)?;
+        }
     }
+    Ok(Said::Passed(address))
 }
 
 // What follows the address: what it says, or what is wrong with it.
@@ -194,24 +164,15 @@ fn follow(a: Address, tail: &[u8]) -> Result<Said, Ailment>
     ensures { MatchResult result (λ v. (said v ≡ a) × Follows a tail.now × Says tail.now v) (Ill a tail.now) }
 {
     match a {
-        Address::N => match read_code(tail) {
-            Ok(_) => Ok(Said::N),
-            Err(i) => Err(Ailment::At(i)),
-        },
+        Address::N => {
+            read_code(tail)?;
+            Ok(Said::N)
+        }
         Address::G => follow_g(tail),
-        Address::M => match read_code(tail) {
-            Ok(code) => Ok(Said::M(m_function(code))),
-            Err(i) => Err(Ailment::At(i)),
-        },
+        Address::M => Ok(Said::M(m_function(read_code(tail)?))),
         Address::Passed(address) => follow_passed(address, tail),
-        Address::Axis(axis) => match read_number(tail) {
-            Ok(number) => Ok(Said::Axis(axis, number)),
-            Err(i) => Err(Ailment::At(i)),
-        },
-        Address::Rpl => match read_turn(tail) {
-            Ok(number) => Ok(Said::Rpl(number)),
-            Err(i) => Err(Ailment::At(i)),
-        },
+        Address::Axis(axis) => Ok(Said::Axis(axis, read_number(tail)?)),
+        Address::Rpl => Ok(Said::Rpl(read_turn(tail)?)),
         Address::Name(name) => match tail {
             [] => Ok(Said::Name(name)),
             _ => Err(Ailment::At(0)),
@@ -235,52 +196,14 @@ fn shaped_word(text: &[u8], place: usize) -> Result<Word<'_>, Fault>
     ensures { MatchResult result (WordIs text.now place) (λ f. Clean text.now → Declined text.now place f) }
 {
     let (front, tail) = split(text);
-    let Some(a) = address(front) else {
-        return Err(Fault::Unknown { place });
-    };
-    match follow(a, tail) {
-        Err(Ailment::Unlisted) => Err(Fault::Unknown { place }),
-        Err(Ailment::At(i)) => Err(Fault::Shape {
+    let a = address(front).ok_or(Fault::Unknown { place })?;
+    let said = follow(a, tail).map_err(|ailment| match ailment {
+        Ailment::Unlisted => Fault::Unknown { place },
+        Ailment::At(i) => Fault::Shape {
             place: place + front.len() + i,
-        }),
-        Ok(Said::Name(name)) => Ok(Word::Name { name, text, place }),
-        Ok(Said::Axis(axis, number)) => Ok(Word::Axis {
-            axis,
-            number,
-            text,
-            place,
-        }),
-        Ok(Said::Rpl(number)) => Ok(Word::Rpl {
-            number,
-            text,
-            place,
-        }),
-        Ok(Said::G(function)) => Ok(Word::G {
-            function,
-            text,
-            place,
-        }),
-        Ok(Said::M(function)) => Ok(Word::M {
-            function,
-            text,
-            place,
-        }),
-        Ok(Said::N) => Ok(Word::N { text, place }),
-        Ok(Said::Passed(address)) => Ok(Word::Passed {
-            address,
-            text,
-            place,
-        }),
-    }
-}
-
-fn is_code(s: &[u8]) -> bool
-    ensures { result ≡ true → IsCode s.now }
-{
-    match read_code(s) {
-        Ok(_) => true,
-        Err(_) => false,
-    }
+        },
+    })?;
+    Ok(said.word(text, place))
 }
 
 // Is it an N word: the letter, and 1 to 8 digits?
@@ -288,8 +211,7 @@ fn is_n_word(text: &[u8]) -> bool
     ensures { result ≡ true → NWord text.now }
 {
     match text {
-        [b'N', digits @ ..] => is_code(digits),
-        [b'n', digits @ ..] => is_code(digits),
+        [b'N' | b'n', digits @ ..] => read_code(digits).is_ok(),
         _ => false,
     }
 }
@@ -302,61 +224,8 @@ pub(crate) fn read_word(text: &[u8], place: usize) -> Result<Word<'_>, Fault>
     if is_n_word(text) {
         return Ok(Word::N { text, place });
     }
-    match shaped_word(text, place) {
-        Ok(word) => Ok(word),
-        Err(fault) => match wrong_byte(text) {
-            Some(i) => Err(Fault::Byte { place: place + i }),
-            None => Err(fault),
-        },
-    }
-}
-
-/// What a word says, without its bytes; the comment says nothing.
-pub fn item(w: Word<'_>) -> Option<Item>
-    ensures { result ≡ item_of w.entry }
-{
-    match w {
-        Word::Name { name, place, .. } => Some(Item {
-            says: Said::Name(name),
-            place,
-        }),
-        Word::Axis {
-            axis,
-            number,
-            place,
-            ..
-        } => Some(Item {
-            says: Said::Axis(axis, number),
-            place,
-        }),
-        Word::Rpl { number, place, .. } => Some(Item {
-            says: Said::Rpl(number),
-            place,
-        }),
-        Word::G {
-            function,
-            place,
-            ..
-        } => Some(Item {
-            says: Said::G(function),
-            place,
-        }),
-        Word::M {
-            function,
-            place,
-            ..
-        } => Some(Item {
-            says: Said::M(function),
-            place,
-        }),
-        Word::N { place, .. } => Some(Item {
-            says: Said::N,
-            place,
-        }),
-        Word::Passed { address, place, .. } => Some(Item {
-            says: Said::Passed(address),
-            place,
-        }),
-        Word::Comment { .. } => None,
-    }
+    shaped_word(text, place).map_err(|fault| match wrong_byte(text) {
+        Some(i) => Fault::Byte { place: place + i },
+        None => fault,
+    })
 }

@@ -1,11 +1,13 @@
-use Rattle.std.proofs.Common.{◌≡◌, ◌<◌, length, sym, refl, subst, arith, rules}
-use Rattle.std.proofs.lemmas.List.{nil_from_length}
-use Rattle.reader.specs.declared.types.Address.{Address}
-use Rattle.reader.specs.declared.types.Address.TheVariants.{Name}
-use Rattle.reader.specs.Words.{Follows}
+use Rattle.std.proofs.Common.{rules}
+use Rattle.std.proofs.lemmas.Result.{err_from_is_err_and}
 use Rattle.reader.proofs.word.follow.Goals as goal
 
-pub returns-in-empty : goal.returns-in-empty
-returns-in-empty c =
-    let h : length c.args.tail.now < 1 = search rules in
-    subst (λ (a : Address). (Name c.in-Name.name ≡ a) × Follows a c.args.tail.now × Unit {0}) (sym c.in-Name.is) (refl, nil_from_length c.args.tail.now (omega arith), tt)
+pub returns-in_err-read_number-in-Axis : goal.returns-in_err-read_number-in-Axis
+returns-in_err-read_number-in-Axis c =
+    let r = c.from_residual-in_err-read_number-in-Axis in
+    let p = err_from_is_err_and r.result r.ensures.1 in rw (p.1, p.2) (search rules)
+
+pub returns-in_err-read_turn-in-Rpl : goal.returns-in_err-read_turn-in-Rpl
+returns-in_err-read_turn-in-Rpl c =
+    let r = c.from_residual-in_err-read_turn-in-Rpl in
+    let p = err_from_is_err_and r.result r.ensures.1 in rw (p.1, p.2) (search rules)
