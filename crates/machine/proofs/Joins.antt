@@ -44,11 +44,6 @@ joins b bs p =
 pub joined_stands : (top below r : Reply) → r ≡ joined top below → OnTop top below r
 joined_stands top below r e b bs p t l = e ∙ ap (λ u. joined u below) t ∙ ap (λ u. joined (reply (b ∷ []) p) u) l ∙ joins b bs p
 
--- a move that the box on top lets through is the end's below
-through_moved : (b : Bounds) (m : Meaning) (p : Point) (r : Reply) → topped b (moved m p r) ≡ moved (topped b m) p (joined (Ok tt) r)
-through_moved b m p (Ok u) = refl
-through_moved b m p (Err f) = refl
-
 stays : (m : Meaning) (p : Point) (f : Fault) (r : Reply) → m ≡ moved m p (joined (Err f) r)
 stays m p f (Ok u) = refl
 stays m p f (Err g) = refl
@@ -56,9 +51,6 @@ stays m p f (Err g) = refl
 joined_is : (b : Bounds) (m : Meaning) (p : Point) (top : Reply) → top ≡ reply (b ∷ []) p → joined top (reply_to m p) ≡ reply_to (topped b m) p
 joined_is b m p top e = joined_stands top (reply_to m p) (joined top (reply_to m p)) refl b m.boxes p e refl
 
-pub let_through : (b : Bounds) (m n : Meaning) (p : Point) → Ok tt ≡ reply (b ∷ []) p → n ≡ after_move m p → topped b n ≡ after_move (topped b m) p
-let_through b m n p own e = ap (topped b) e ∙ through_moved b m p (reply_to m p) ∙ ap (moved (topped b m) p) (joined_is b m p (Ok tt) own)
-
--- one that it declines changes nothing
+-- a move that the box on top declines changes nothing
 pub held_back : (b : Bounds) (m : Meaning) (p : Point) (f : Fault) → Err f ≡ reply (b ∷ []) p → topped b m ≡ after_move (topped b m) p
 held_back b m p f own = stays (topped b m) p f (reply_to m p) ∙ ap (moved (topped b m) p) (joined_is b m p (Err f) own)

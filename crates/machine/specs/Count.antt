@@ -4,9 +4,15 @@ use Rattle.units.specs.Nearest.{nearest}
 use Rattle.units.specs.Axes.{on_axis}
 use Rattle.units.specs.declared.axis.Point.{Point}
 use Rattle.machine.specs.declared.bounds.Bounds.{Bounds}
+use Rattle.units.specs.declared.axis.ByAxis.{ByAxis}
+use Rattle.machine.specs.declared.increment.Increment.{Increment}
 use Rattle.machine.specs.Motors.{Increments, Counts}
 use Rattle.machine.specs.Ranges.{increment_fits}
 use Rattle.machine.specs.Meaning.{Meaning}
+
+-- the lengths of increments
+abbrev pub lengths : ByAxis Increment → Increments
+lengths i = record { x = i.x.units; y = i.y.units; z = i.z.units }
 
 unfoldable pub increments_fit : Increments → Bool
 increments_fit i = increment_fits i.x && (increment_fits i.y && increment_fits i.z)

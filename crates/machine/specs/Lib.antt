@@ -3,6 +3,7 @@ pub mod Made
 pub mod Motors
 pub mod Meaning
 pub mod Replies
+pub mod Admitted
 pub mod Joined
 pub mod Area
 pub mod Scale
@@ -12,3 +13,4 @@ pub mod Visits
 pub mod RangesLemmas
 pub mod Counts
 pub mod Nearness
+pub mod Owed

@@ -1,10 +1,12 @@
 // The count end: holds motor counts, has a count length for each axis, and rounds ties to the lower count.
 ghost use Rattle.std.specs.Prelude.{◌≡◌, true};
 ghost use Rattle.machine.specs.Ranges.{within};
-ghost use Rattle.machine.specs.Count.{increments_fit, standing_at};
+ghost use Rattle.machine.specs.Count.{lengths, standing_at};
 
 use crate::bounds::Bounds;
-use crate::motors::{Counts, Increments};
+use crate::increment::Increment;
+use crate::motors::Counts;
+use units::axis::ByAxis;
 
 pub mod moves;
 pub mod rounding;
@@ -13,8 +15,7 @@ pub mod rounding;
 #[derive(Drop)]
 pub struct CountEnd {
     bounds: Bounds,
-    increments: Increments,
+    increments: ByAxis<Increment>,
     counts: Counts,
-    ghost sized: { increments_fit increments ≡ true },
-    ghost placed: { within 2000050000 (standing_at increments counts) ≡ true },
+    ghost placed: { within 2000050000 (standing_at (lengths increments) counts) ≡ true },
 }

@@ -1,22 +1,12 @@
-// The range of increments.
-ghost use Rattle.std.specs.Prelude.{◌≡◌};
-ghost use Rattle.machine.specs.Ranges.{increment_fits};
-ghost use Rattle.machine.specs.Count.{increments_fit};
+// The length of an increment.
+ghost use Rattle.std.specs.Prelude.{ℕ, ◌≤◌};
 
-use crate::motors::Increments;
+pub mod make;
 
-const LONGEST: u32 = 100_000;
-
-/// Whether an increment is 1 to 100,000 units.
-pub fn fair_increment(increment: u32) -> bool
-    ensures { result ≡ increment_fits increment }
-{
-    1 <= increment && increment <= LONGEST
-}
-
-/// The same of each axis's.
-pub fn fair_increments(increments: Increments) -> bool
-    ensures { result ≡ increments_fit increments }
-{
-    fair_increment(increments.x) && fair_increment(increments.y) && fair_increment(increments.z)
+/// The length of an end's steps, or of one count of a motor: 1 to 100,000 units.
+#[derive(Clone, Copy)]
+pub struct Increment {
+    pub units: u32,
+    ghost least: { 1 ≤ units },
+    ghost most: { units ≤ 100000 },
 }

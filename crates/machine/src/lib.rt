@@ -3,6 +3,7 @@
 
 pub mod area;
 pub mod bounds;
+mod coordinate;
 pub mod count;
 pub mod end;
 pub mod increment;

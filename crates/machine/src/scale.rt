@@ -1,8 +1,9 @@
 // The scale end: holds positions, has one increment for all axes, and rounds ties away from zero.
 ghost use Rattle.std.specs.Prelude.{◌≡◌, true};
-ghost use Rattle.machine.specs.Ranges.{within, increment_fits};
+ghost use Rattle.machine.specs.Ranges.{within};
 
 use crate::bounds::Bounds;
+use crate::increment::Increment;
 use units::axis::Point;
 
 pub mod moves;
@@ -11,8 +12,7 @@ pub mod moves;
 #[derive(Drop)]
 pub struct ScaleEnd {
     bounds: Bounds,
-    increment: u32,
+    increment: Increment,
     position: Point,
-    ghost sized: { increment_fits increment ≡ true },
     ghost placed: { within 2000050000 position ≡ true },
 }

@@ -1,7 +1,6 @@
 // A work area over an end is again an end.
 ghost use Rattle.machine.specs.Meaning.{topped};
-ghost use Rattle.std.proofs.Common.{arith};
-ghost use Rattle.machine.specs.RangesLemmas.{limit_fits};
+ghost use Rattle.machine.specs.Owed.{topped_sound};
 
 use crate::area::WorkArea;
 use crate::end::MachineEnd;
@@ -12,16 +11,7 @@ use units::fault::Fault;
 impl<E: MachineEnd> MachineEnd for WorkArea<E> {
     ghost meaning = { λ w. topped w.own (E.MachineEnd.meaning w.below) };
 
-    ghost sound = { λ w.
-        let s = E.MachineEnd.sound w.below in
-        record {
-          some_box = omega arith;
-          limits_fit = (limit_fits w.own, s.limits_fit);
-          least = s.least;
-          most = s.most;
-          near = s.near;
-          held_fits = s.held_fits;
-        } };
+    ghost sound = { λ w. topped_sound w.own _ (E.MachineEnd.sound w.below) };
 
     fn take_move(&mut self, to: Point) -> Result<(), Fault> {
         match self.own.admit(to) {

@@ -2,13 +2,15 @@
 ghost use Rattle.std.specs.Prelude.{◌≡◌, ℕ, ◌&&◌, [], ◌∷◌, true, false, nat_le, unsigned_abs, MatchResult};
 ghost use Rattle.units.specs.Axes.{axis_of};
 ghost use Rattle.units.specs.declared.fault.Fault.TheVariants.{Outside};
+ghost use Rattle.machine.specs.Admitted.{AdmittedBy};
 ghost use Rattle.machine.specs.Made.{MadeWhere};
 ghost use Rattle.machine.specs.Ranges.{within};
 ghost use Rattle.machine.specs.Meaning.{limits};
 ghost use Rattle.machine.specs.Replies.{beyond, reply, box_at, limit_of};
 
 use crate::bounds::Bounds;
-use units::axis::{Axis, Point, Side};
+use crate::coordinate::Coordinate;
+use units::axis::{Axis, ByAxis, Point, Side};
 use units::fault::Fault;
 
 const REACH: u64 = 2_000_000_000;
@@ -20,6 +22,7 @@ fn reached(v: i64) -> bool
 }
 
 // Whether every coordinate can be a limit.
+#[tactic(auto, unfolding(crate::specs::Ranges::within))]
 fn in_reach(p: Point) -> bool
     ensures { result ≡ within 2000000000 p }
 {
@@ -69,6 +72,18 @@ impl Bounds {
             });
         }
         Ok(())
+    }
+
+    /// The coordinates of a move that this box admits.
+    pub(crate) fn admitted(&self, to: Point) -> Result<ByAxis<Coordinate>, Fault>
+        ensures { AdmittedBy self.now to result }
+    {
+        self.admit(to)?;
+        Ok(ByAxis {
+            x: Coordinate { units: to.x },
+            y: Coordinate { units: to.y },
+            z: Coordinate { units: to.z },
+        })
     }
 
     /// What a move gets from this box alone.

@@ -1,76 +1,64 @@
 // Making a scale end, and its moves.
-ghost use Rattle.std.specs.Prelude.{◌≡◌, ℕ, ◌≤◌, true, unsigned_abs};
+ghost use Rattle.std.specs.Prelude.{◌≡◌, true};
 ghost use Rattle.machine.specs.Made.{MadeWhere};
 ghost use Rattle.machine.specs.Ranges.{within, increment_fits};
 ghost use Rattle.machine.specs.Meaning.{each, origin};
+ghost use Rattle.machine.specs.Admitted.{coordinates};
 ghost use Rattle.machine.specs.Scale.{nearest_multiple, scale_meaning};
-ghost use Rattle.std.proofs.Common.{arith};
-ghost use Rattle.machine.specs.RangesLemmas.{increment_least, increment_most, limit_fits, on_axis_lem};
-ghost use Rattle.machine.specs.Nearness.{multiple_near};
+ghost use Rattle.machine.specs.Owed.{scale_sound};
 
 use crate::bounds::Bounds;
+use crate::coordinate::Coordinate;
 use crate::end::MachineEnd;
-use crate::increment::fair_increment;
+use crate::increment::Increment;
 use crate::scale::ScaleEnd;
-use units::axis::{Axis, Point, Side};
+use units::axis::{Axis, ByAxis, Point, Side};
 use units::division::div_nearest;
 use units::fault::Fault;
 use units::quantity::{Dividend, Divisor};
 
 impl ScaleEnd {
     /// At 0, 0, 0; `Fault::Argument` where the increment is not 1 to 100,000.
+    #[tactic(auto, using(crate::specs::RangesLemmas::origin_within))]
     pub fn new(increment: u32, bounds: Bounds) -> Result<ScaleEnd, Fault>
-        ensures { MadeWhere (increment_fits increment) (λ e. scale_meaning e.increment e.bounds e.position ≡ scale_meaning increment bounds origin) result }
+        ensures { MadeWhere (increment_fits increment) (λ e. scale_meaning e.increment.units e.bounds e.position ≡ scale_meaning increment bounds origin) result }
     {
-        if !fair_increment(increment) {
-            return Err(Fault::Argument);
-        }
         Ok(ScaleEnd {
             bounds,
-            increment,
-            position: Point { x: 0, y: 0, z: 0 },
+            increment: Increment::new(increment)?,
+            position: Point::default(),
         })
     }
 }
 
-fn multiple(increment: u32, v: i64) -> i64
-    requires size { (1 ≤ increment) × (increment ≤ 100000) }
-    requires small { unsigned_abs v ≤ 2000000000 }
-    ensures { result ≡ nearest_multiple increment v }
-{
-    div_nearest(Dividend { value: v }, Divisor { value: increment }) * i64::from(increment)
-}
+impl Increment {
+    fn multiple(self, v: Coordinate) -> i64
+        ensures { result ≡ nearest_multiple self.units v.units }
+    {
+        div_nearest(Dividend { value: v.units }, Divisor { value: self.units })
+            * i64::from(self.units)
+    }
 
-fn multiples(increment: u32, to: Point) -> Point
-    requires sized { increment_fits increment ≡ true }
-    requires placed { within 2000000000 to ≡ true }
-    ensures value { result ≡ each (λ a. nearest_multiple increment) to }
-    ensures bound { within 2000050000 result ≡ true }
-{
-    Point {
-        x: multiple(increment, to.x),
-        y: multiple(increment, to.y),
-        z: multiple(increment, to.z),
+    fn multiples(self, to: ByAxis<Coordinate>) -> Point
+        ensures value { result ≡ each (λ a. nearest_multiple self.units) (coordinates to) }
+        ensures bound { within 2000050000 result ≡ true }
+    {
+        Point {
+            x: self.multiple(to.x),
+            y: self.multiple(to.y),
+            z: self.multiple(to.z),
+        }
     }
 }
 
 impl MachineEnd for ScaleEnd {
-    ghost meaning = { λ e. scale_meaning e.increment e.bounds e.position };
+    ghost meaning = { λ e. scale_meaning e.increment.units e.bounds e.position };
 
-    ghost sound = { λ e.
-        record {
-          some_box = omega arith;
-          limits_fit = (limit_fits e.bounds, tt);
-          least = λ a. increment_least _ e.sized;
-          most = λ a. increment_most _ e.sized;
-          near = λ a v. multiple_near _ v (increment_least _ e.sized);
-          held_fits = on_axis_lem _ e.position e.placed;
-        } };
+    ghost sound = { λ e. scale_sound e.increment e.bounds e.position e.placed };
 
     fn take_move(&mut self, to: Point) -> Result<(), Fault> {
-        self.ask_move(to)?;
-        let position = multiples(self.increment, to);
-        self.position = position;
+        let to = self.bounds.admitted(to)?;
+        self.position = self.increment.multiples(to);
         Ok(())
     }
 
@@ -88,7 +76,7 @@ impl MachineEnd for ScaleEnd {
 
     fn increment(&self, axis: u8) -> Result<u32, Fault> {
         Axis::try_from(axis)?;
-        Ok(self.increment)
+        Ok(self.increment.units)
     }
 
     fn held(&self, axis: u8) -> Result<i64, Fault> {

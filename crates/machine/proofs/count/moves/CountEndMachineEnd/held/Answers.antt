@@ -6,4 +6,4 @@ pub standing-requires : goal.standing-requires
 standing-requires c =
     let f : SFits w64 c.on-2.result = search rules in
     let me = c.args.self.now in
-    standing_fits me.increments me.counts me.placed c.in_ok-a.a _ _ f c.on.ensures c.on-2.ensures
+    standing_fits me.increments me.counts me.placed c.in_ok-axis.axis _ _ f c.on.ensures c.on-2.ensures
