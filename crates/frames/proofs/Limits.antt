@@ -1,12 +1,12 @@
 -- The range of what is accepted, and the axes that are not moved.
-use Rattle.std.proofs.Common.{◌≡◌, ℕ, zero, suc, ◌<◌, ◌≤◌, Bool, true, false, cond, List, [], ◌∷◌, get_or, nat_abs, IfOk, Ok, Err, Result, sym, refl, ap, ◌∙◌, subst, arith}
+use Rattle.std.proofs.Common.{◌≡◌, ℕ, zero, suc, ◌<◌, ◌≤◌, Bool, true, false, cond, List, [], ◌∷◌, get_or, nat_abs, IfOk, Ok, Err, Result, sym, refl, ap, ◌∙◌, subst, arith, ltb-false}
 use Rattle.units.specs.declared.quantity.Length.{Length}
 use Rattle.units.specs.declared.fault.Fault.{Fault}
 use Rattle.chains.specs.declared.step.Step.{Step}
 use Rattle.frames.specs.declared.image.Image.{Image}
 use Rattle.frames.specs.Pushing.{coordinate, spread_of, new_at, new_spread, through, too_wide, onward, through_steps, carried, settable, started, length_at, pushed}
 use Rattle.frames.specs.Theorems.{Limited}
-use Rattle.frames.proofs.Passing.{tested_same, tested_passed, through_at, through_spread, ltb_no, pushed_carried, carried_ranged, started_near}
+use Rattle.frames.proofs.Passing.{tested_same, tested_passed, through_at, through_spread, pushed_carried, carried_ranged, started_near}
 
 abbrev Kept : List Bool → Image → Image → Type 0
 Kept m x q = (a : ℕ) → a < 3 → get_or m a false ≡ false → (coordinate q a ≡ coordinate x a) × (spread_of q a ≡ spread_of x a)
@@ -26,11 +26,11 @@ start_kept values (suc (suc zero)) h = (refl, refl)
 start_kept values (suc (suc (suc a))) h = absurd (omega arith)
 
 narrow_by : (tol r : ℕ) (b : Bool) → too_wide tol b r ≡ false → (b ≡ false → r ≡ 0) → r ≤ tol
-narrow_by tol r true t k = ltb_no tol r t
+narrow_by tol r true t k = ltb-false tol r t
 narrow_by tol r false t k = let z = k refl in omega arith
 
 onward_narrow : (n : ℕ) (m : List Bool) (tol : ℕ) (s : Step) (r : Result Image Fault) (q : Image) → onward n m tol s r ≡ Ok q → (a : ℕ) → a < 3 → too_wide tol (get_or m a false) (spread_of q a) ≡ false
-onward_narrow n m tol s (Err f) q e a h = absurd (let z : ◌≡◌ {A = ℕ} 0 1 = cc in omega arith)
+onward_narrow n m tol s (Err f) q e a h = absurd cc
 onward_narrow n m tol s (Ok p) q e a h = subst (λ (w : Image). too_wide tol (get_or m a false) (spread_of w a) ≡ false) (tested_same n m tol (through m s p) q e) ((tested_passed n m tol (through m s p) q e).small a h)
 
 pub pushed_limited : (ss : List Step) (m : List Bool) (tol : ℕ) (o values : List Length) (r : Result Image Fault) → r ≡ pushed ss m tol o values → IfOk r (Limited m tol values)

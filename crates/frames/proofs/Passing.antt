@@ -14,12 +14,12 @@ use Rattle.frames.specs.Theorems.{AllInRange}
 
 pub or_else_ok : (o : Option Axis) (f : Axis → Fault) (r : Result Image Fault) (q : Image) → or_else o f r ≡ Ok q → (o ≡ None) × (r ≡ Ok q)
 or_else_ok None f r q e = (refl, e)
-or_else_ok (Some a) f r q e = absurd (let z : ◌≡◌ {A = ℕ} 0 1 = cc in omega arith)
+or_else_ok (Some a) f r q e = absurd cc
 
 none_of : (x y z : Bool) → cond {A = Option Axis} x (Some X) (cond y (Some Y) (cond z (Some Z) None)) ≡ None → (x ≡ false) × (y ≡ false) × (z ≡ false)
-none_of true y z e = absurd (let z : ◌≡◌ {A = ℕ} 0 1 = cc in omega arith)
-none_of false true z e = absurd (let z : ◌≡◌ {A = ℕ} 0 1 = cc in omega arith)
-none_of false false true e = absurd (let z : ◌≡◌ {A = ℕ} 0 1 = cc in omega arith)
+none_of true y z e = absurd cc
+none_of false true z e = absurd cc
+none_of false false true e = absurd cc
 none_of false false false e = (refl, refl, refl)
 
 pub none_found : (f : ℕ → Bool) → first_axis f ≡ None → (a : ℕ) → a < 3 → f a ≡ false
@@ -68,15 +68,12 @@ through_spread m s p (suc (suc zero)) h = refl
 through_spread m s p (suc (suc (suc a))) h = absurd (omega arith)
 
 -- a moved axis has passed the test, another is as it was
-pub ltb_no : (a b : ℕ) → ltb a b ≡ false → b ≤ a
-ltb_no a b e = omega (arith, ltb-false)
-
 pub near_by : (b : Bool) (z : ℤ) → too_far b z ≡ false → (b ≡ false → nat_abs z ≤ 2000000000) → nat_abs z ≤ 2000000000
-near_by true z t h = ltb_no 2000000000 (nat_abs z) t
+near_by true z t h = ltb-false 2000000000 (nat_abs z) t
 near_by false z t h = h refl
 
 pub small_by : (tol : ℕ) (b : Bool) (z : ℕ) → tol ≤ 100000 → too_wide tol b z ≡ false → (b ≡ false → z ≤ 100000) → z ≤ 100000
-small_by tol true z l t h = le_trans (ltb_no tol z t) l
+small_by tol true z l t h = le_trans (ltb-false tol z t) l
 small_by tol false z l t h = h refl
 
 -- the loop over the steps
@@ -120,15 +117,15 @@ push_end ss (suc i) m tol x p h e = absurd (omega arith)
 
 -- what is accepted is the point carried through with no test, in range after each step
 moved_far : (b : Bool) (x : ℤ) → too_far b x ≡ false → b ≡ true → nat_abs x ≤ 2000000000
-moved_far true x t e = ltb_no 2000000000 (nat_abs x) t
-moved_far false x t e = absurd (let z : ◌≡◌ {A = ℕ} 0 1 = cc in omega arith)
+moved_far true x t e = ltb-false 2000000000 (nat_abs x) t
+moved_far false x t e = absurd cc
 
 pub record Carried (ss : List Step) (m : List Bool) (x q : Image) : Type 0 where
   pub same : q ≡ carried ss m x
   pub ranged : AllInRange ss m x
 
 onward_carried : (n : ℕ) (m : List Bool) (tol : ℕ) (s : Step) (ss : List Step) (r : Result Image Fault) (x q : Image) → ((p : Image) → r ≡ Ok p → Carried ss m x p) → onward n m tol s r ≡ Ok q → Carried (s ∷ ss) m x q
-onward_carried n m tol s ss (Err f) x q b e = absurd (let z : ◌≡◌ {A = ℕ} 0 1 = cc in omega arith)
+onward_carried n m tol s ss (Err f) x q b e = absurd cc
 onward_carried n m tol s ss (Ok p) x q b e =
     let c = b p refl in
     let t = tested_passed n m tol (through m s p) q e in

@@ -1,5 +1,5 @@
 // One axis of an image, through a step other than a turn.
-ghost use Rattle.std.specs.Prelude.{◌≡◌, ℕ, ◌≤◌, unsigned_abs};
+ghost use Rattle.std.specs.Prelude.{◌≡◌, ◌≤◌, unsigned_abs};
 ghost use Rattle.frames.specs.Pushing.{offset_by, scaled_by, scaled_spread, mirrored_by};
 
 use crate::round::scaled;

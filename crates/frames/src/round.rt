@@ -1,5 +1,5 @@
 // Products and the division that rounds them, at both ends of the range.
-ghost use Rattle.std.specs.Prelude.{◌≡◌, ℕ, ◌+◌, ◌*◌, ◌%◌, ◌≤◌, max, ℤ, pos, ◌+ℤ◌, ◌-ℤ◌, ◌*ℤ◌, unsigned_abs};
+ghost use Rattle.std.specs.Prelude.{◌≡◌, ◌%◌, ◌≤◌, max, pos, ◌+ℤ◌, ◌-ℤ◌, ◌*ℤ◌, unsigned_abs};
 ghost use Rattle.units.specs.Nearest.{nearest};
 ghost use Rattle.fractions.specs.Fractions.{one_if};
 ghost use Rattle.frames.specs.Pushing.{scale_spread, odd_spread};

@@ -1,5 +1,5 @@
 // One step of the chain, axis by axis.
-ghost use Rattle.std.specs.Prelude.{◌≡◌, ℕ, ◌<◌, ℤ};
+ghost use Rattle.std.specs.Prelude.{◌≡◌, ℕ, ◌<◌};
 ghost use Rattle.chains.specs.declared.step.Step.{Step};
 ghost use Rattle.chains.specs.declared.step.Step.TheVariants.{Offset, Scale, Turn};
 ghost use Rattle.frames.specs.Pushing.{through};

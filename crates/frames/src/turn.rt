@@ -1,5 +1,5 @@
 // A turn of two coordinates and their spreads.
-ghost use Rattle.std.specs.Prelude.{◌≡◌, ℕ, ◌/◌, ◌%◌, ◌<◌, ◌≤◌, max};
+ghost use Rattle.std.specs.Prelude.{◌≡◌, ◌<◌, max};
 ghost use Rattle.frames.specs.Pushing.{quarters_first, quarters_second, quarters_spread, odd_first, odd_second, odd_spread, turned_first, turned_second, turned_spread};
 
 use crate::coordinate::Coordinate;

@@ -1,15 +1,10 @@
-use Rattle.std.proofs.Common.{◌≡◌, ◌+◌, ◌≤◌, length, Err, ◌∙◌, rules}
+use Rattle.std.proofs.Common.{◌≡◌, ◌≤◌, length, Err, ◌∙◌, rules}
 use Rattle.chains.specs.Chains.{steps_of}
 use Rattle.frames.specs.Axes.{image_of}
-use Rattle.frames.proofs.Passing.{push_start, loop_next, loop_refused, loop_ended}
+use Rattle.frames.proofs.Passing.{loop_next, loop_refused, loop_ended}
 use Rattle.frames.proofs.Limits.{pushed_limited}
 use Rattle.frames.proofs.Whole.{pushed_sound}
 use Rattle.frames.proofs.push.push.Goals as goal
-
-pub loop-i-init : goal.loop-i-init
-loop-i-init c =
-    let h : c.args.chain.now.count ≤ length c.args.chain.now.steps = search rules in
-    push_start c.args.chain.now.steps c.args.chain.now.count c.args.moved c.args.tolerance.units c.start-p.result.image h (c.args.chain.now.count + 1)
 
 pub loop-i-preserved : goal.loop-i-preserved
 loop-i-preserved c =
