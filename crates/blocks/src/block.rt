@@ -9,7 +9,6 @@ use crate::gathered::{Gathered, Order, Slots};
 use crate::rules::judge;
 use crate::types::Block;
 use reader::reader::BlockReader;
-use reader::word::item;
 use units::fault::Fault;
 
 /// How many bytes a block may have.
@@ -22,7 +21,7 @@ fn gather(bytes: &[u8], g: &mut Gathered) -> Result<(), Fault>
 {
     let mut reader = BlockReader::new(bytes);
     while let Some(read) = reader.next_word() {
-        if let Some(x) = item(read?) {
+        if let Some(x) = read?.item() {
             if g.slots.taken(x.says) {
                 return Err(Fault::Repeated { place: x.place });
             }
