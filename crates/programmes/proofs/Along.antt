@@ -1,7 +1,6 @@
 -- One line more of a text.
-use Rattle.std.proofs.Common.{◌≡◌, ℕ, suc, ◌+◌, ◌<◌, ◌≤◌, Bool, true, false, cond, ◌||◌, ◌⊎◌, List, [], ◌∷◌, ◌++◌, length, take, drop, Ok, Err, Result, sym, refl, ap, ◌∙◌, subst, inl, inr, append_assoc, arith, lit≤, length-append, length-drop, leb-false}
-use Rattle.std.specs.List.{between}
-use Rattle.std.proofs.lemmas.List.{append-nil, take-append-le, take_at}
+use Rattle.std.proofs.Common.{◌≡◌, ℕ, suc, ◌+◌, ◌<◌, ◌≤◌, Bool, true, false, cond, ◌||◌, ◌⊎◌, List, [], ◌∷◌, ◌++◌, length, take, drop, Ok, Err, Result, sym, refl, ap, ◌∙◌, subst, inl, inr, append_assoc, arith, lit≤, length-append, leb-false}
+use Rattle.std.proofs.lemmas.List.{append-nil, take-append-le, take_at, drop_all}
 use Rattle.units.specs.declared.fault.Fault.{Fault}
 use Rattle.units.specs.declared.fault.Fault.TheVariants.{RollFull}
 use Rattle.units.specs.declared.quantity.Tolerance.{Tolerance}
@@ -18,11 +17,11 @@ use Rattle.shifts.specs.Calls.{answer_of, left_after, ShownAll, left_all, Replie
 use Rattle.shifts.proofs.Law.{law_holds}
 use Rattle.rolls.specs.Rolls.{RollState, records_of, is_full, extended}
 use Rattle.rolls.proofs.Longer.{no_more, records_more, places_more, more_more}
-use Rattle.programmes.specs.declared.records.MoveRecord.{MoveRecord}
-use Rattle.programmes.specs.declared.records.DeclineRecord.{DeclineRecord}
-use Rattle.programmes.specs.Lines.{Line, lines_from, lines_of, EndsAt}
+use Rattle.frames.specs.declared.image.Image.{Image}
+use Rattle.lines.specs.Lines.{Line, lines_from, lines_of, LineRead}
+use Rattle.lines.proofs.OneWay.{lines_are}
+use Rattle.programmes.specs.declared.records.BlockRecord.{BlockRecord}
 use Rattle.programmes.specs.Text.{block_of, blocks_of, any_moved, move_of, decline_of, made_by, Rolled, InAnyShift, Stopped, LinesWorked, TextWorked, ShiftWorked}
-use Rattle.programmes.proofs.Lines.{next_line, no_line, some_line}
 
 -- calls after calls
 shown_append : (xs : List Call) (rxs : List Seen) (ys : List Call) (rys : List Seen) (s : State) → ShownAll s xs rxs → ShownAll (left_all s xs) ys rys → ShownAll s (xs ++ ys) (rxs ++ rys)
@@ -124,9 +123,9 @@ module _ {R : Type 0} (f : ℕ → Answer → List R) (few : (start : ℕ) (a : 
         ways k le = grind arith
 
 few_moves : (start : ℕ) (a : Answer) → length (move_of start a) ≤ 1
-few_moves start (Replies r) = at_most (any_moved r.moved) (record { start = start; image = r.image })
+few_moves start (Replies r) = at_most (any_moved r.moved) (record { start = start; told = r.image })
   where
-    at_most : (b : Bool) (m : MoveRecord) → length (cond b (m ∷ []) []) ≤ 1
+    at_most : (b : Bool) (m : BlockRecord Image) → length (cond b (m ∷ []) []) ≤ 1
     at_most true m = lit≤ tt
     at_most false m = lit≤ tt
 few_moves start (Told t) = lit≤ tt
@@ -138,7 +137,7 @@ few_declines start (Told t) = lit≤ tt
 few_declines start (Declined g) = lit≤ tt
 
 -- so far: the lines before start are worked
-pub record Along (s : State) (text : List ℕ) (moves : RollState MoveRecord) (declines : RollState DeclineRecord) (start : ℕ) (t : State) (moves' : RollState MoveRecord) (declines' : RollState DeclineRecord) : Type 0 where
+pub record Along (s : State) (text : List ℕ) (moves : RollState (BlockRecord Image)) (declines : RollState (BlockRecord Fault)) (start : ℕ) (t : State) (moves' : RollState (BlockRecord Image)) (declines' : RollState (BlockRecord Fault)) : Type 0 where
   pub done : List Line
   pub seen : List Seen
   pub parted : lines_of text ≡ done ++ lines_from start (drop start text)
@@ -146,7 +145,7 @@ pub record Along (s : State) (text : List ℕ) (moves : RollState MoveRecord) (d
   pub moved : Rolled move_of done seen moves moves'
   pub declined : Rolled decline_of done seen declines declines'
 
-pub along_none : (s : State) (text : List ℕ) (moves : RollState MoveRecord) (declines : RollState DeclineRecord) → moves.count ≤ length moves.places → declines.count ≤ length declines.places → Along s text moves declines 0 s moves declines
+pub along_none : (s : State) (text : List ℕ) (moves : RollState (BlockRecord Image)) (declines : RollState (BlockRecord Fault)) → moves.count ≤ length moves.places → declines.count ≤ length declines.places → Along s text moves declines 0 s moves declines
 along_none s text moves declines hm hd = record {
   done = [];
   seen = [];
@@ -157,33 +156,33 @@ along_none s text moves declines hm hd = record {
 }
 
 -- one line more
-module _ (s : State) (text : List ℕ) (moves : RollState MoveRecord) (declines : RollState DeclineRecord) (start end : ℕ) (t u : State) (moves' moves'' : RollState MoveRecord) (declines' declines'' : RollState DeclineRecord) (reply : Result Reply Fault) (reading : Reading) where
+module _ (s : State) (text : List ℕ) (moves : RollState (BlockRecord Image)) (declines : RollState (BlockRecord Fault)) (start next : ℕ) (bytes : List ℕ) (t u : State) (moves' moves'' : RollState (BlockRecord Image)) (declines' declines'' : RollState (BlockRecord Fault)) (reply : Result Reply Fault) (reading : Reading) where
   abbrev line : Line
-  line = record { start = start; bytes = between start end text }
+  line = record { start = start; bytes = bytes }
 
   abbrev one_seen : Seen
   one_seen = record { answer = answer_of reply; reading = reading }
 
-  shown : reply ≡ replied (worked t (between start end text)) → u ≡ left_by t (worked t (between start end text)) → Tells u reading → Replied t (block_of line ∷ []) (one_seen ∷ []) u
+  shown : reply ≡ replied (worked t bytes) → u ≡ left_by t (worked t bytes) → Tells u reading → Replied t (block_of line ∷ []) (one_seen ∷ []) u
   shown e l w = record { shown = (record { answer = ap answer_of e; reading = subst (λ (z : State). Tells z reading) l w }, tt); left = l }
 
-  pub along_more : Along s text moves declines start t moves' declines' → start < length text → EndsAt text start end → is_full moves' ≡ false → is_full declines' ≡ false → reply ≡ replied (worked t (between start end text)) → u ≡ left_by t (worked t (between start end text)) → Tells u reading → moves'' ≡ extended moves' (move_of start (answer_of reply)) → declines'' ≡ extended declines' (decline_of start (answer_of reply)) → Along s text moves declines (end + 1) u moves'' declines''
-  along_more a lt ends fm fd e l w em ed =
+  pub along_more : Along s text moves declines start t moves' declines' → LineRead text start next bytes → is_full moves' ≡ false → is_full declines' ≡ false → reply ≡ replied (worked t bytes) → u ≡ left_by t (worked t bytes) → Tells u reading → moves'' ≡ extended moves' (move_of start (answer_of reply)) → declines'' ≡ extended declines' (decline_of start (answer_of reply)) → Along s text moves declines next u moves'' declines''
+  along_more a read fm fd e l w em ed =
       let same : length a.seen ≡ length a.done = as_many a.done a.seen s a.replies.shown in
       record {
         done = a.done ++ line ∷ [];
         seen = a.seen ++ one_seen ∷ [];
         parted =
             a.parted ∙
-            ap (λ (ls : List Line). a.done ++ ls) (next_line text start end ends lt) ∙
-            sym (append_assoc a.done (line ∷ []) (lines_from (end + 1) (drop (end + 1) text)));
+            ap (λ (ls : List Line). a.done ++ ls) read.lines ∙
+            sym (append_assoc a.done (line ∷ []) (lines_from next (drop next text)));
         replies = subst (λ (cs : List Call). Replied s cs (a.seen ++ one_seen ∷ []) u) (sym (blocks_more a.done line)) (replied_append s t u (blocks_of a.done) a.seen (block_of line ∷ []) (one_seen ∷ []) a.replies (shown e l w));
         moved = rolled_more move_of few_moves a.done a.seen line one_seen same moves moves' moves'' a.moved fm em;
         declined = rolled_more decline_of few_declines a.done a.seen line one_seen same declines declines' declines'' a.declined fd ed;
       }
 
 -- the work is done, or stops before the next line
-module _ {s t : State} {text : List ℕ} {moves moves' : RollState MoveRecord} {declines declines' : RollState DeclineRecord} (start : ℕ) (a : Along s text moves declines start t moves' declines') where
+module _ {s t : State} {text : List ℕ} {moves moves' : RollState (BlockRecord Image)} {declines declines' : RollState (BlockRecord Fault)} (start : ℕ) (a : Along s text moves declines start t moves' declines') where
   stopping : (told : Result (Unit {0}) Fault) → Stopped (lines_from start (drop start text)) moves' declines' told → LinesWorked s (lines_of text) moves declines told t moves' declines'
   stopping told h = record {
     done = a.done;
@@ -197,47 +196,25 @@ module _ {s t : State} {text : List ℕ} {moves moves' : RollState MoveRecord} {
     law = in_any_shift s t (blocks_of a.done) a.seen a.replies;
   }
 
-  pub all_worked : length text ≤ start → LinesWorked s (lines_of text) moves declines (Ok tt) t moves' declines'
-  all_worked le = stopping (Ok tt) (no_line text start le)
+  pub all_worked : start ≡ length text → LinesWorked s (lines_of text) moves declines (Ok tt) t moves' declines'
+  all_worked e = stopping (Ok tt) (ap (lines_from start) (drop_all start text (omega arith)))
 
-  pub stopped_by : start < length text → (is_full moves' || is_full declines') ≡ true → LinesWorked s (lines_of text) moves declines (Err (RollFull start)) t moves' declines'
-  stopped_by lt e =
-      let n = some_line (drop start text) start (omega (arith, length-drop start text)) in
-      stopping (Err (RollFull start)) (n.0, n.1, n.2, ap RollFull n.3, e)
+  pub stopped_by : (next : ℕ) (bytes : List ℕ) → LineRead text start next bytes → (is_full moves' || is_full declines') ≡ true → LinesWorked s (lines_of text) moves declines (Err (RollFull start)) t moves' declines'
+  stopped_by next bytes read e = stopping (Err (RollFull start)) (record { start = start; bytes = bytes }, lines_from next (drop next text), read.lines, refl, e)
 
--- neither roll is full
-pub neither_first : (b c : Bool) → (b || c) ≡ false → b ≡ false
-neither_first true c e = e
-neither_first false c e = refl
+-- what was filed for the line at a place, in a roll that a question left as it was
+pub filed_at : {R : Type 0} (f : ℕ → Answer → List R) (a : Answer) {roll asked filed : RollState R} {start k : ℕ} → filed ≡ extended asked (f k a) → asked ≡ roll → k ≡ start → filed ≡ extended roll (f start a)
+filed_at f a h e p = h ∙ λ i. extended (e i) (f (p i) a)
 
-pub neither_second : (b c : Bool) → (b || c) ≡ false → c ≡ false
-neither_second true c e = absurd (let z : ◌≡◌ {A = ℕ} 0 1 = cc in omega arith)
-neither_second false c e = e
+-- a text that is not too long
+pub short_text : {s t : State} {text : List ℕ} {moves moves' : RollState (BlockRecord Image)} {declines declines' : RollState (BlockRecord Fault)} {told : Result (Unit {0}) Fault} → length text ≤ 65536 → LinesWorked s (lines_of text) moves declines told t moves' declines' → TextWorked s text moves declines told t moves' declines'
+short_text {text = text} short h = record { lines = lines_are 0 text; worked = λ _. h; long = λ long. absurd (omega arith) }
 
--- an accepted block that moved nothing
-pub moved_none : (roll : RollState MoveRecord) (start : ℕ) (r : Reply) → any_moved r.moved ≡ false → roll ≡ extended roll (move_of start (Replies r))
-moved_none roll start r e = sym (no_more roll) ∙ ap (λ (b : Bool). extended roll (cond b (record { start = start; image = r.image } ∷ []) [])) (sym e)
-
--- an answer that makes no record of a kind
-pub filed_as : {R : Type 0} (f : ℕ → Answer → List R) (roll next : RollState R) (start : ℕ) (reply given : Result Reply Fault) → reply ≡ given → next ≡ extended roll (f start (answer_of given)) → next ≡ extended roll (f start (answer_of reply))
-filed_as f roll next start reply given e h = h ∙ ap (λ (z : Result Reply Fault). extended roll (f start (answer_of z))) (sym e)
-
--- what a question left as it was
-pub along_kept : {s t : State} {text : List ℕ} {start : ℕ} {moves moves' moves'' : RollState MoveRecord} {declines declines' declines'' : RollState DeclineRecord} → moves'' ≡ moves' → declines'' ≡ declines' → Along s text moves declines start t moves' declines' → Along s text moves declines start t moves'' declines''
-along_kept {s = s} {t = t} {text = text} {start = start} {moves = moves} {declines = declines} e f a = record {
-  done = a.done;
-  seen = a.seen;
-  parted = a.parted;
-  replies = a.replies;
-  moved = subst (Rolled move_of a.done a.seen moves) (sym e) a.moved;
-  declined = subst (Rolled decline_of a.done a.seen declines) (sym f) a.declined;
-}
-
-pub full_kept : (moves moves' : RollState MoveRecord) (declines declines' : RollState DeclineRecord) (b : Bool) → moves' ≡ moves → declines' ≡ declines → b ≡ (is_full moves || is_full declines) → b ≡ true → (is_full moves' || is_full declines') ≡ true
-full_kept moves moves' declines declines' b e f told taken = (λ i. is_full (e i) || is_full (f i)) ∙ sym told ∙ taken
+pub told_as : {s t : State} {text : List ℕ} {moves moves' moves'' : RollState (BlockRecord Image)} {declines declines' declines'' : RollState (BlockRecord Fault)} {told told' : Result (Unit {0}) Fault} → told' ≡ told → moves'' ≡ moves' → declines'' ≡ declines' → TextWorked s text moves declines told t moves' declines' → TextWorked s text moves declines told' t moves'' declines''
+told_as {s = s} {t = t} {text = text} {moves = moves} {declines = declines} e m d h = coe 1 0 (i. TextWorked s text moves declines (e i) t (m i) (d i)) h
 
 -- a text as a whole shift
-module _ (end : Meaning) (tolerance : Tolerance) (sound : Sound end) (text : List ℕ) (moves : RollState MoveRecord) (declines : RollState DeclineRecord) (opening : Reading) (told : Result (Unit {0}) Fault) (s t : State) (moves' : RollState MoveRecord) (declines' : RollState DeclineRecord) where
+module _ (end : Meaning) (tolerance : Tolerance) (sound : Sound end) (text : List ℕ) (moves : RollState (BlockRecord Image)) (declines : RollState (BlockRecord Fault)) (opening : Reading) (told : Result (Unit {0}) Fault) (s t : State) (moves' : RollState (BlockRecord Image)) (declines' : RollState (BlockRecord Fault)) where
   from_opened : Tells (opened end tolerance) opening → TextWorked (opened end tolerance) text moves declines told t moves' declines' → ShiftWorked end tolerance text moves declines opening told t moves' declines'
   from_opened o w = record {
     tells = o;

@@ -1,5 +1,6 @@
 -- What working a text makes of translator, end and rolls.
 use Rattle.std.specs.Prelude.{◌≡◌, ℕ, ◌+◌, ◌<◌, ◌≤◌, Bool, true, false, cond, ◌||◌, List, [], ◌∷◌, ◌++◌, length, take, Ok, Err, Result, slice_index_or}
+use Rattle.frames.specs.declared.image.Image.{Image}
 use Rattle.units.specs.declared.fault.Fault.{Fault}
 use Rattle.units.specs.declared.fault.Fault.TheVariants.{RollFull, Argument}
 use Rattle.units.specs.declared.quantity.Tolerance.{Tolerance}
@@ -14,9 +15,8 @@ use Rattle.shifts.specs.declared.call.Seen.{Seen}
 use Rattle.shifts.specs.Calls.{Replied}
 use Rattle.shifts.specs.Law.{Law}
 use Rattle.rolls.specs.Rolls.{RollState, records_of, is_full, extended}
-use Rattle.programmes.specs.declared.records.MoveRecord.{MoveRecord}
-use Rattle.programmes.specs.declared.records.DeclineRecord.{DeclineRecord}
-use Rattle.programmes.specs.Lines.{Line, lines_of, Lines}
+use Rattle.lines.specs.Lines.{Line, lines_of, Lines}
+use Rattle.programmes.specs.declared.records.BlockRecord.{BlockRecord}
 
 -- a line's bytes are a block; where they stand in memory tells nothing
 abbrev pub block_of : Line → Call
@@ -30,16 +30,16 @@ abbrev pub any_moved : List Bool → Bool
 any_moved moved = slice_index_or moved 0 false || (slice_index_or moved 1 false || slice_index_or moved 2 false)
 
 -- an accepted block that moved makes a move record, with its start, targets and spreads
-abbrev pub move_of : ℕ → Answer → List MoveRecord
-move_of start (Replies r) = cond (any_moved r.moved) (record { start = start; image = r.image } ∷ []) []
+abbrev pub move_of : ℕ → Answer → List (BlockRecord Image)
+move_of start (Replies r) = cond (any_moved r.moved) (record { start = start; told = r.image } ∷ []) []
 move_of start (Told t) = []
 move_of start (Declined f) = []
 
 -- a declined one makes a decline record, with its start and fault
-abbrev pub decline_of : ℕ → Answer → List DeclineRecord
+abbrev pub decline_of : ℕ → Answer → List (BlockRecord Fault)
 decline_of start (Replies r) = []
 decline_of start (Told t) = []
-decline_of start (Declined f) = record { start = start; fault = f } ∷ []
+decline_of start (Declined f) = record { start = start; told = f } ∷ []
 
 -- the records that lines make, in their order, with what was seen of each
 abbrev pub made_by : {R : Type 0} → (ℕ → Answer → List R) → List Line → List Seen → List R
@@ -56,7 +56,7 @@ pub record Rolled {R : Type 0} (f : ℕ → Answer → List R) (done : List Line
   pub room : (k : ℕ) → k < length done → roll.count + length (made_by f (take k done) (take k seen)) < length roll.places
 
 -- all lines are worked, or one of the rolls is full before the next, whose start is told
-abbrev pub Stopped : List Line → RollState MoveRecord → RollState DeclineRecord → Result (Unit {0}) Fault → Type 0
+abbrev pub Stopped : List Line → RollState (BlockRecord Image) → RollState (BlockRecord Fault) → Result (Unit {0}) Fault → Type 0
 Stopped next moves declines (Ok u) = next ≡ []
 Stopped next moves declines (Err f) = (l : Line) × (ls : List Line) × (next ≡ l ∷ ls) × (f ≡ RollFull l.start) × ((is_full moves || is_full declines) ≡ true)
 
@@ -65,7 +65,7 @@ abbrev pub InAnyShift : State → List Call → List Seen → State → Type 0
 InAnyShift s blocks seen t = (end : Meaning) (tolerance : Tolerance) (before : List Call) (opening : Reading) (earlier : List Seen) → Sound end → Tells (opened end tolerance) opening → Replied (opened end tolerance) before earlier s → Law end tolerance (before ++ blocks) opening (earlier ++ seen) × Replied (opened end tolerance) (before ++ blocks) (earlier ++ seen) t
 
 -- Lines worked one after the other: the first of them (done) as blocks of a shift, with one thing seen of each; the rest (next) is not begun.
-pub record LinesWorked (s : State) (lines : List Line) (moves : RollState MoveRecord) (declines : RollState DeclineRecord) (told : Result (Unit {0}) Fault) (t : State) (moves' : RollState MoveRecord) (declines' : RollState DeclineRecord) : Type 0 where
+pub record LinesWorked (s : State) (lines : List Line) (moves : RollState (BlockRecord Image)) (declines : RollState (BlockRecord Fault)) (told : Result (Unit {0}) Fault) (t : State) (moves' : RollState (BlockRecord Image)) (declines' : RollState (BlockRecord Fault)) : Type 0 where
   pub done : List Line
   pub next : List Line
   pub seen : List Seen
@@ -77,13 +77,13 @@ pub record LinesWorked (s : State) (lines : List Line) (moves : RollState MoveRe
   pub law : InAnyShift s (blocks_of done) seen t
 
 -- a text's lines are worked; one of more than 65,536 bytes gets 17, and nothing is done
-pub record TextWorked (s : State) (text : List ℕ) (moves : RollState MoveRecord) (declines : RollState DeclineRecord) (told : Result (Unit {0}) Fault) (t : State) (moves' : RollState MoveRecord) (declines' : RollState DeclineRecord) : Type 0 where
+pub record TextWorked (s : State) (text : List ℕ) (moves : RollState (BlockRecord Image)) (declines : RollState (BlockRecord Fault)) (told : Result (Unit {0}) Fault) (t : State) (moves' : RollState (BlockRecord Image)) (declines' : RollState (BlockRecord Fault)) : Type 0 where
   pub lines : Lines 0 text (lines_of text)
   pub worked : length text ≤ 65536 → LinesWorked s (lines_of text) moves declines told t moves' declines'
   pub long : 65536 < length text → (told ≡ Err Argument) × (t ≡ s) × (moves' ≡ moves) × (declines' ≡ declines)
 
 -- a text as a whole shift over an end: the law holds at the start and after each of its blocks
-pub record ShiftWorked (end : Meaning) (tolerance : Tolerance) (text : List ℕ) (moves : RollState MoveRecord) (declines : RollState DeclineRecord) (opening : Reading) (told : Result (Unit {0}) Fault) (t : State) (moves' : RollState MoveRecord) (declines' : RollState DeclineRecord) : Type 0 where
+pub record ShiftWorked (end : Meaning) (tolerance : Tolerance) (text : List ℕ) (moves : RollState (BlockRecord Image)) (declines : RollState (BlockRecord Fault)) (opening : Reading) (told : Result (Unit {0}) Fault) (t : State) (moves' : RollState (BlockRecord Image)) (declines' : RollState (BlockRecord Fault)) : Type 0 where
   pub tells : Tells (opened end tolerance) opening
   pub worked : TextWorked (opened end tolerance) text moves declines told t moves' declines'
   pub law : (short : length text ≤ 65536) → Law end tolerance (blocks_of (worked.worked short).done) opening (worked.worked short).seen

@@ -1,7 +1,6 @@
 //! Whole programmes: a text worked line by line, with what happened in the caller's rolls.
 #![tactic(auto)]
 
-pub mod line;
 pub mod records;
 pub mod shift;
 pub mod work;

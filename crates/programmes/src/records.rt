@@ -3,29 +3,20 @@ use frames::image::Image;
 use rolls::record::Record;
 use units::fault::Fault;
 
-/// An accepted block that moved: its start in the text, and the three targets with their spreads.
+/// A block by its start in the text, with what was told of it.
 #[derive(Clone, Copy)]
-pub struct MoveRecord {
+pub struct BlockRecord<T> {
     pub start: usize,
-    pub image: Image,
+    pub told: T,
 }
 
-/// A declined block: its start in the text, and why.
-#[derive(Clone, Copy)]
-pub struct DeclineRecord {
-    pub start: usize,
-    pub fault: Fault,
-}
+/// An accepted block that moved, with the three targets and their spreads.
+pub type MoveRecord = BlockRecord<Image>;
 
-impl Record for MoveRecord {
-    ghost start_of = { λ r. r.start };
+/// A declined block, with why.
+pub type DeclineRecord = BlockRecord<Fault>;
 
-    fn start(&self) -> usize {
-        self.start
-    }
-}
-
-impl Record for DeclineRecord {
+impl<T> Record for BlockRecord<T> {
     ghost start_of = { λ r. r.start };
 
     fn start(&self) -> usize {

@@ -1,13 +1,12 @@
 // Working a text.
-ghost use Rattle.std.specs.Prelude.{◌≡◌, ℕ, ◌≤◌, Bool, true, false, ◌||◌, length, Ok, Err};
+ghost use Rattle.std.specs.Prelude.{◌≡◌, ℕ, false};
 ghost use Rattle.translator.specs.State.{state_of};
 ghost use Rattle.shifts.specs.Calls.{answer_of};
 ghost use Rattle.rolls.specs.Rolls.{roll_of, is_full, extended};
-ghost use Rattle.programmes.specs.Lines.{lines_of};
-ghost use Rattle.programmes.specs.Text.{any_moved, move_of, decline_of, LinesWorked, TextWorked};
+ghost use Rattle.programmes.specs.Text.{any_moved, move_of, decline_of, TextWorked};
 
-use crate::line::line_end;
 use crate::records::{DeclineRecord, MoveRecord};
+use lines::reader::LineReader;
 use machine::end::MachineEnd;
 use rolls::roll::Roll;
 use translator::reply::Reply;
@@ -16,46 +15,6 @@ use units::fault::Fault;
 
 /// How many bytes a text may have.
 const LONGEST: usize = 65_536;
-
-fn moved_any(reply: &Reply) -> bool
-    ensures { result ≡ any_moved reply.now.moved }
-{
-    reply.moved[0] || reply.moved[1] || reply.moved[2]
-}
-
-// Whether one of the rolls has no place left.
-fn one_is_full(moves: &mut Roll<MoveRecord>, declines: &mut Roll<DeclineRecord>) -> bool
-    ensures told { result ≡ (is_full (roll_of moves.old) || is_full (roll_of declines.old)) }
-    ensures same { moves.new ≡ moves.old }
-    ensures also { declines.new ≡ declines.old }
-{
-    let moves_full = moves.is_full();
-    let declines_full = declines.is_full();
-    moves_full || declines_full
-}
-
-// Files an accepted block that moved.
-fn file_move(reply: Reply, start: usize, moves: &mut Roll<MoveRecord>)
-    requires { is_full (roll_of moves.old) ≡ false }
-    ensures left { roll_of moves.new ≡ extended (roll_of moves.old) (move_of start (answer_of (Ok reply))) }
-    ensures lent { moves.new.places.ghost_name ≡ moves.old.places.ghost_name }
-{
-    if moved_any(&reply) {
-        let _ = moves.append(MoveRecord {
-            start,
-            image: reply.image,
-        });
-    }
-}
-
-// Files a declined block.
-fn file_decline(fault: Fault, start: usize, declines: &mut Roll<DeclineRecord>)
-    requires { is_full (roll_of declines.old) ≡ false }
-    ensures left { roll_of declines.new ≡ extended (roll_of declines.old) (decline_of start (answer_of (Err fault))) }
-    ensures lent { declines.new.places.ghost_name ≡ declines.old.places.ghost_name }
-{
-    let _ = declines.append(DeclineRecord { start, fault });
-}
 
 // Files what a block was answered; both rolls have a place left.
 fn file(
@@ -71,33 +30,16 @@ fn file(
     ensures also { declines.new.places.ghost_name ≡ declines.old.places.ghost_name }
 {
     match reply {
-        Ok(reply) => file_move(reply, start, moves),
-        Err(fault) => file_decline(fault, start, declines),
-    }
-}
-
-fn work_lines<E: MachineEnd>(
-    translator: &mut Translator<E>,
-    text: &[u8],
-    moves: &mut Roll<MoveRecord>,
-    declines: &mut Roll<DeclineRecord>,
-) -> Result<(), Fault>
-    requires { length text.now ≤ 65536 }
-    ensures worked { LinesWorked (state_of E.meaning translator.old) (lines_of text.now) (roll_of moves.old) (roll_of declines.old) result (state_of E.meaning translator.new) (roll_of moves.new) (roll_of declines.new) }
-    ensures lent { moves.new.places.ghost_name ≡ moves.old.places.ghost_name }
-    ensures also { declines.new.places.ghost_name ≡ declines.old.places.ghost_name }
-{
-    let mut start = 0;
-    while start < text.len() {
-        if one_is_full(moves, declines) {
-            return Err(Fault::RollFull { start });
+        Ok(reply) => {
+            if reply.moved.iter().any(|moved| *moved) {
+                let told = reply.image;
+                let _ = moves.append(MoveRecord { start, told });
+            }
         }
-        let end = line_end(text, start);
-        let reply = translator.block(&text[start..end]);
-        file(reply, start, moves, declines);
-        start = end + 1;
+        Err(told) => {
+            let _ = declines.append(DeclineRecord { start, told });
+        }
     }
-    Ok(())
 }
 
 /// Works a text line by line. Each accepted block that moved adds a record to the move roll, each declined one to the decline roll.
@@ -115,5 +57,12 @@ pub fn work_text<E: MachineEnd>(
     if text.len() > LONGEST {
         return Err(Fault::Argument);
     }
-    work_lines(translator, text, moves, declines)
+    for line in LineReader::new(text) {
+        if moves.is_full() || declines.is_full() {
+            return Err(Fault::RollFull { start: line.start });
+        }
+        let reply = translator.block(line.bytes);
+        file(reply, line.start, moves, declines);
+    }
+    Ok(())
 }

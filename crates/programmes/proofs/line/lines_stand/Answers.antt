@@ -1,5 +1,0 @@
-use Rattle.programmes.proofs.Lines.{lines_are, lines_only}
-use Rattle.programmes.proofs.line.lines_stand.Goals as goal
-
-pub returns : goal.returns
-returns c = record { are = lines_are; only = λ k text ls. lines_only ls k text }
