@@ -120,13 +120,27 @@ def exact(chain, values, offset):
     return [e[a] + offset[a] for a in range(3)]
 
 
+def listed(values):
+    return "[%s]" % ", ".join(map(str, values))
+
+
+def flags(values):
+    return listed("true" if v else "false" for v in values)
+
+
 def rust(step):
     kind = step[0]
     if kind == "Turn":
-        return f"[TURN, {list(PLANES).index(step[1])}, {step[2]}, 0]"
+        return f"Raw::Turn(Plane::{step[1]}, {step[2]})"
     if kind == "Mirror":
-        return "[MIRROR, %s]" % ", ".join("1" if b else "0" for b in step[1])
-    return "[%s, %s]" % (kind.upper(), ", ".join("NONE" if v is None else str(v) for v in step[1]))
+        return f"Raw::Mirror({flags(step[1])})"
+    return f"Raw::{kind}({listed('None' if v is None else f'Some({v})' for v in step[1])})"
+
+
+def answer(told):
+    if told[0] == 0:
+        return f"Ok(Pushed {{ at: {listed(told[1:4])}, spread: {listed(told[4:])} }})"
+    return "Err(Refused { number: %d, axis: %d, step: %d })" % tuple(told[:3])
 
 
 ROWS = []
@@ -141,17 +155,9 @@ def case(steps, values, moved=(True, True, True), offset=(0, 0, 0), tolerance=10
     if told[0] == 0 and all(moved):
         e = exact(chain, values, offset)
         assert all(abs(told[1 + a] - e[a]) <= told[4 + a] for a in range(3)), (steps, values)
-    lines = [rust(s) for s in steps] + ["[0, 0, 0, 0]"] * (8 - len(steps))
     ROWS.append(
-        "    Case {\n        steps: [%s],\n        moved: [%s],\n        values: [%s],\n        offset: [%s],\n        tolerance: %d,\n        told: [%s],\n    },"
-        % (
-            ", ".join(lines),
-            ", ".join("true" if m else "false" for m in moved),
-            ", ".join(map(str, values)),
-            ", ".join(map(str, offset)),
-            tolerance,
-            ", ".join(map(str, told)),
-        )
+        f"    Case {{ steps: &{listed(map(rust, steps))}, moved: {flags(moved)}, values: {listed(values)}, "
+        f"offset: {listed(offset)}, tolerance: {tolerance}, told: {answer(told)} }},"
     )
 
 
@@ -218,18 +224,17 @@ for _ in range(16):
         steps.append(step)
     case(steps, [rnd.randint(-END, END) for _ in range(3)], offset=[rnd.randint(-10**7, 10**7) for _ in range(3)], tolerance=rnd.choice([20, 100_000]))
 
-print("// Cases with the answers worked out by tools/frames_cases.py, with fractions. Answers: 0, coordinates, spreads; or the decline's number, axis and step.")
-print("use crate::{Case, MIRROR, NONE, OFFSET, SCALE, TURN};\n")
-print(f"pub const COUNT: usize = {len(ROWS)};\n")
-print("pub static CASES: [Case; COUNT] = [")
+print("// Cases with the answers worked out by tools/frames_cases.py, with fractions.")
+print("use crate::{Case, Pushed, Raw, Refused};")
+print("use units::axis::Plane;\n")
+print("pub static CASES: &[Case] = &[")
 print("\n".join(ROWS))
 print("];")
 
 TICKS = [0, 1, 2, 99_999, 150_000, 300_000, 449_999, 450_000, 450_001, 600_000, 899_999]
 TICKS = sorted(t + 900_000 * q for t in TICKS for q in range(4))
-print(f"\npub const NUMBER_COUNT: usize = {len(TICKS)};\n")
-print("// Ticks, cosine and sine: the whole numbers nearest to 10^9 times their references.")
-print("pub static NUMBERS: [[i64; 3]; NUMBER_COUNT] = [")
+print("\n// Ticks, cosine and sine: the whole numbers nearest to 10^9 times their references.")
+print("pub static NUMBERS: &[(u32, i64, i64)] = &[")
 for t in TICKS:
-    print("    [%d, %d, %d]," % ((t,) + numbers(t)))
+    print("    (%d, %d, %d)," % ((t,) + numbers(t)))
 print("];")
