@@ -1,1 +1,2 @@
 pub mod Simulated
+pub mod Owed

@@ -30,9 +30,6 @@ after_one m (q ∷ ps) p = after_one (after_move m q) ps p
 pub same_reply : (m : Meaning) (ps : List Point) (n : ℕ) (c : Meaning) → Going m ps n c → (p : Point) → reply_to c p ≡ reply_to m p
 same_reply m ps n c g p = ap (λ (bs : List Bounds). reply bs p) (ap (λ (d : Meaning). d.boxes) g.left ∙ boxes_kept m (take n ps))
 
-pub start : (m : Meaning) (ps : List Point) → Going m ps 0 m
-start m ps = record { bound = omega arith; taken = λ k h. absurd (omega arith); left = refl }
-
 pub go_on_lem : (m : Meaning) (ps : List Point) (n : ℕ) (c d : Meaning) → Going m ps n c → n < length ps → Ok tt ≡ reply_to c (get_or ps n origin) → d ≡ after_move c (get_or ps n origin) → Going m ps (n + 1) d
 go_on_lem m ps n c d g h r e = record {
   bound = omega arith;
@@ -46,6 +43,3 @@ stop m ps n c d f g h r e = record {
   ended = (h, sym (same_reply m ps n c g (get_or ps n origin)) ∙ sym r);
   left = e ∙ ap (λ (t : Reply). moved c (get_or ps n origin) t) (sym r) ∙ g.left;
 }
-
-pub finish : (m : Meaning) (ps : List Point) (n : ℕ) (c : Meaning) → Going m ps n c → length ps ≤ n → Visited m ps (record { taken = n; end = Ok tt }) c
-finish m ps n c g h = let b = g.bound in record { taken = g.taken; ended = omega arith; left = g.left }

@@ -1,9 +1,11 @@
 // Questions to a machine end.
-ghost use Rattle.std.specs.Prelude.{◌≡◌};
-ghost use Rattle.questions.specs.Questions.{axis_told, told_of, limit_asked, increment_asked, held_asked, move_asked, level_asked};
+ghost use Rattle.std.specs.Prelude.{◌≡◌, ℕ, ℤ, pos, ◌<ℤ◌, MatchResult};
+ghost use Rattle.units.specs.Axes.{axis_of};
+ghost use Rattle.units.specs.declared.fault.Fault.TheVariants.{Argument};
+ghost use Rattle.questions.specs.Questions.{axis_told, told_of};
 
 use machine::end::MachineEnd;
-use units::axis::{Point, Side};
+use units::axis::{Axis, Point, Side};
 use units::fault::Fault;
 
 /// A question, with its numbers as they come.
@@ -27,61 +29,16 @@ pub enum Told {
     Taken,
 }
 
-// 0 is the number of no axis.
-fn axis_number(axis: i64) -> u8
-    ensures { result ≡ axis_told axis }
+fn known_axis(axis: i64) -> Result<Axis, Fault>
+    ensures { result ≡ axis_of (axis_told axis) }
 {
-    match axis {
-        1 => 1,
-        2 => 2,
-        3 => 3,
-        _ => 0,
-    }
+    Axis::try_from(u8::try_from(axis).map_err(|_| Fault::Argument)?)
 }
 
-fn ask_limit<E: MachineEnd>(end: &E, level: usize, axis: u8, side: Side) -> Result<Told, Fault>
-    ensures { result ≡ limit_asked (E.meaning end.now) level axis side }
+fn box_level(level: i64) -> Result<usize, Fault>
+    ensures { MatchResult result (λ n. level ≡ pos n) (λ f. (level <ℤ pos 0) × (f ≡ Argument)) }
 {
-    match end.limit(level, axis, side) {
-        Ok(v) => Ok(Told::Limit(v)),
-        Err(fault) => Err(fault),
-    }
-}
-
-fn ask_level<E: MachineEnd>(end: &E, level: i64, axis: u8, side: Side) -> Result<Told, Fault>
-    ensures { result ≡ level_asked (E.meaning end.now) level axis side }
-{
-    if level < 0 {
-        return Err(Fault::Argument);
-    }
-    ask_limit(end, level as usize, axis, side)
-}
-
-fn ask_increment<E: MachineEnd>(end: &E, axis: u8) -> Result<Told, Fault>
-    ensures { result ≡ increment_asked (E.meaning end.now) axis }
-{
-    match end.increment(axis) {
-        Ok(n) => Ok(Told::Increment(n)),
-        Err(fault) => Err(fault),
-    }
-}
-
-fn ask_held<E: MachineEnd>(end: &E, axis: u8) -> Result<Told, Fault>
-    ensures { result ≡ held_asked (E.meaning end.now) axis }
-{
-    match end.held(axis) {
-        Ok(v) => Ok(Told::Held(v)),
-        Err(fault) => Err(fault),
-    }
-}
-
-fn ask_move<E: MachineEnd>(end: &E, to: Point) -> Result<Told, Fault>
-    ensures { result ≡ move_asked (E.meaning end.now) to }
-{
-    match end.ask_move(to) {
-        Ok(()) => Ok(Told::Taken),
-        Err(fault) => Err(fault),
-    }
+    usize::try_from(level).map_err(|_| Fault::Argument)
 }
 
 /// Asks any end; a question changes nothing. An axis or a level that is not there gets 17.
@@ -90,9 +47,13 @@ pub fn ask<E: MachineEnd>(end: &E, question: Question) -> Result<Told, Fault>
 {
     match question {
         Question::Boxes => Ok(Told::Boxes(end.box_count())),
-        Question::Limit { level, axis, side } => ask_level(end, level, axis_number(axis), side),
-        Question::Increment { axis } => ask_increment(end, axis_number(axis)),
-        Question::Held { axis } => ask_held(end, axis_number(axis)),
-        Question::Move(to) => ask_move(end, to),
+        Question::Limit { level, axis, side } => end
+            .limit(box_level(level)?, known_axis(axis)?.number(), side)
+            .map(Told::Limit),
+        Question::Increment { axis } => end
+            .increment(known_axis(axis)?.number())
+            .map(Told::Increment),
+        Question::Held { axis } => end.held(known_axis(axis)?.number()).map(Told::Held),
+        Question::Move(to) => end.ask_move(to).map(|()| Told::Taken),
     }
 }

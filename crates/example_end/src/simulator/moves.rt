@@ -2,9 +2,7 @@
 ghost use Rattle.std.specs.Prelude.{◌≡◌};
 ghost use Rattle.machine.specs.Meaning.{origin};
 ghost use Rattle.example_end.specs.Simulated.{simulated};
-ghost use Rattle.std.proofs.Common.{arith};
-ghost use Rattle.std.proofs.lemmas.Int.{ints};
-ghost use Rattle.machine.specs.RangesLemmas.{limit_fits, on_axis_lem};
+ghost use Rattle.example_end.specs.Owed.{simulated_sound};
 
 use crate::simulator::Simulator;
 use machine::bounds::Bounds;
@@ -14,12 +12,13 @@ use units::fault::Fault;
 
 impl Simulator {
     /// At 0, 0, 0.
+    #[tactic(auto, using(machine::specs::RangesLemmas::origin_within))]
     pub fn new(bounds: Bounds) -> Simulator
         ensures { simulated result.bounds result.position ≡ simulated bounds origin }
     {
         Simulator {
             bounds,
-            position: Point { x: 0, y: 0, z: 0 },
+            position: Point::default(),
         }
     }
 }
@@ -27,15 +26,7 @@ impl Simulator {
 impl MachineEnd for Simulator {
     ghost meaning = { λ e. simulated e.bounds e.position };
 
-    ghost sound = { λ e.
-        record {
-          some_box = omega arith;
-          limits_fit = (limit_fits e.bounds, tt);
-          least = λ a. omega arith;
-          most = λ a. omega arith;
-          near = λ a v. omega (arith, ints);
-          held_fits = λ a. let h = on_axis_lem _ e.position e.placed a in omega arith;
-        } };
+    ghost sound = { λ e. simulated_sound e.bounds e.position e.placed };
 
     fn take_move(&mut self, to: Point) -> Result<(), Fault> {
         self.ask_move(to)?;
