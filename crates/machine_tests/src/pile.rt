@@ -9,7 +9,7 @@ use machine::visit::{Visit, visit_all};
 use units::axis::Point;
 
 pub fn visit_pile(pile: &mut WorkArea<WorkArea<ScaleEnd>>, points: &[Point]) -> Visit
-    ensures { Visited (topped pile.old.own (topped pile.old.below.own (scale_meaning pile.old.below.below.increment pile.old.below.below.bounds pile.old.below.below.position))) points.now result (topped pile.new.own (topped pile.new.below.own (scale_meaning pile.new.below.below.increment pile.new.below.below.bounds pile.new.below.below.position))) }
+    ensures { Visited (topped pile.old.own (topped pile.old.below.own (scale_meaning pile.old.below.below.increment.units pile.old.below.below.bounds pile.old.below.below.position))) points.now result (topped pile.new.own (topped pile.new.below.own (scale_meaning pile.new.below.below.increment.units pile.new.below.below.bounds pile.new.below.below.position))) }
 {
     visit_all(pile, points)
 }

@@ -14,28 +14,25 @@ use units::fault::Fault;
 use units::quantity::Length;
 
 fn made<T>(r: Result<T, Fault>) -> Result<T, Fail> {
-    match r {
-        Ok(v) => Ok(v),
-        Err(_) => Err(Fail::new("declined")),
-    }
+    r.map_err(|_| Fail::new("declined"))
 }
 
-// The number of the decline, with axis and level; 0 where there is none.
-fn reply(r: Result<(), Fault>) -> (u8, u8, u8) {
-    match r {
-        Ok(()) => (0, 0, 0),
-        Err(f) => {
-            let d = f.decline();
-            (d.number, d.axis, d.level)
-        }
-    }
+// The number of the decline, with axis and level.
+fn reply(r: Result<(), Fault>) -> Option<(u8, u8, u8)> {
+    let d = r.err()?.decline();
+    Some((d.number, d.axis, d.level))
 }
 
-// The number of the decline; 0 where there is none.
-fn declined<T: Drop>(r: Result<T, Fault>) -> u8 {
-    match r {
-        Ok(_) => 0,
-        Err(f) => f.decline().number,
+// The number of the decline.
+fn declined<T: Drop>(r: Result<T, Fault>) -> Option<u8> {
+    r.err().map(|fault| fault.decline().number)
+}
+
+fn point(at: (i64, i64, i64)) -> Point {
+    Point {
+        x: at.0,
+        y: at.1,
+        z: at.2,
     }
 }
 
@@ -44,60 +41,37 @@ fn all(v: i64) -> Point {
 }
 
 fn bounds(lower: (i64, i64, i64), upper: (i64, i64, i64)) -> Result<Bounds, Fault> {
-    let from = Point {
-        x: lower.0,
-        y: lower.1,
-        z: lower.2,
-    };
-    Bounds::new(
-        from,
-        Point {
-            x: upper.0,
-            y: upper.1,
-            z: upper.2,
-        },
-    )
+    Bounds::new(point(lower), point(upper))
 }
 
 fn cube(lower: i64, upper: i64) -> Result<Bounds, Fail> {
     made(Bounds::new(all(lower), all(upper)))
 }
 
-fn check_held<E: MachineEnd>(rt: &impl Abort, end: &E, x: i64, y: i64, z: i64) {
-    let p = held_position(end);
-    assert_eq!(rt; (p.x, p.y, p.z), (x, y, z));
+fn check_held<E: MachineEnd>(rt: &impl Abort, end: &E, at: (i64, i64, i64)) {
+    assert_eq!(rt; held_position(end), point(at));
 }
 
-// What a move to x, y, z would get: number, axis and level.
-fn check_asked<E: MachineEnd>(rt: &impl Abort, end: &E, rows: &[(i64, i64, i64, (u8, u8, u8))]) {
-    for row in rows {
-        assert_eq!(rt;
-            reply(end.ask_move(Point {
-                x: row.0,
-                y: row.1,
-                z: row.2,
-            })),
-            row.3
-        );
+// What a move would get: number, axis and level, or none where it would be taken.
+fn check_asked<E: MachineEnd>(
+    rt: &impl Abort,
+    end: &E,
+    rows: &[((i64, i64, i64), Option<(u8, u8, u8)>)],
+) {
+    for (to, told) in rows {
+        assert_eq!(rt; reply(end.ask_move(point(*to))), *told);
     }
 }
 
-// A move to x, y, z: what it gets, and what is then held.
+// A move, what it gets, and what is then held.
 fn check_moved<E: MachineEnd>(
     rt: &impl Abort,
     end: &mut E,
-    rows: &[(i64, i64, i64, (u8, u8, u8), (i64, i64, i64))],
+    rows: &[((i64, i64, i64), Option<(u8, u8, u8)>, (i64, i64, i64))],
 ) {
-    for row in rows {
-        assert_eq!(rt;
-            reply(end.take_move(Point {
-                x: row.0,
-                y: row.1,
-                z: row.2,
-            })),
-            row.3
-        );
-        check_held(rt, end, row.4.0, row.4.1, row.4.2);
+    for (to, told, held) in rows {
+        assert_eq!(rt; reply(end.take_move(point(*to))), *told);
+        check_held(rt, end, *held);
     }
 }
 
@@ -111,11 +85,7 @@ fn check_rounded(
 ) -> Result<(), Fail> {
     let whole = cube(-2_000_000_000, 2_000_000_000)?;
     let mut one = made(ScaleEnd::new(increment, whole))?;
-    check_moved(
-        rt,
-        &mut one,
-        &[(to, to, to, (0, 0, 0), (scale, scale, scale))],
-    );
+    check_moved(rt, &mut one, &[((to, to, to), None, (scale, scale, scale))]);
     let mut other = made(CountEnd::new(
         Increments {
             x: increment,
@@ -124,11 +94,7 @@ fn check_rounded(
         },
         whole,
     ))?;
-    check_moved(
-        rt,
-        &mut other,
-        &[(to, to, 50_000, (0, 0, 0), (count, to, 0))],
-    );
+    check_moved(rt, &mut other, &[((to, to, 50_000), None, (count, to, 0))]);
     Ok(())
 }
 
@@ -154,8 +120,8 @@ fn roundings(rt: HostRuntime) -> Result<(), Fail> {
         (99_773, 2_000_000_000, 2_000_049_558, 2_000_049_558),
         (99_773, -2_000_000_000, -2_000_049_558, -2_000_049_558),
     ];
-    for r in &rows {
-        check_rounded(&rt, r.0, r.1, r.2, r.3)?;
+    for (increment, to, scale, count) in &rows {
+        check_rounded(&rt, *increment, *to, *scale, *count)?;
     }
     Ok(())
 }
@@ -166,43 +132,53 @@ fn limits_in_range(rt: HostRuntime) {
         (
             (-2_000_000_000, -2_000_000_000, -2_000_000_000),
             (2_000_000_000, 2_000_000_000, 2_000_000_000),
-            0,
+            None,
         ),
-        ((2_000_000_000, 0, 0), (-2_000_000_000, 0, 0), 0),
-        ((0, 0, -2_000_000_001), (0, 0, 0), 17),
-        ((0, 2_000_000_001, 0), (0, 0, 0), 17),
-        ((0, 0, 0), (2_000_000_001, 0, 0), 17),
-        ((0, 0, 0), (0, i64::MIN, 0), 17),
-        ((0, 0, i64::MAX), (0, 0, 0), 17),
+        ((2_000_000_000, 0, 0), (-2_000_000_000, 0, 0), None),
+        ((0, 0, -2_000_000_001), (0, 0, 0), Some(17)),
+        ((0, 2_000_000_001, 0), (0, 0, 0), Some(17)),
+        ((0, 0, 0), (2_000_000_001, 0, 0), Some(17)),
+        ((0, 0, 0), (0, i64::MIN, 0), Some(17)),
+        ((0, 0, i64::MAX), (0, 0, 0), Some(17)),
     ];
-    for r in &rows {
-        assert_eq!(rt; declined(bounds(r.0, r.1)), r.2);
+    for (lower, upper, told) in &rows {
+        assert_eq!(rt; declined(bounds(*lower, *upper)), *told);
     }
 }
 
 #[test]
 fn increments_in_range(rt: HostRuntime) -> Result<(), Fail> {
-    let point = cube(0, 0)?;
-    for r in &[(0, 17), (1, 0), (100_000, 0), (100_001, 17), (u32::MAX, 17)] {
-        assert_eq!(rt; declined(ScaleEnd::new(r.0, point)), r.1);
-    }
-    for r in &[
-        (1, 100_000, 7, 0),
-        (0, 1, 1, 17),
-        (1, 0, 1, 17),
-        (1, 1, 100_001, 17),
+    let origin = cube(0, 0)?;
+    for (increment, told) in &[
+        (0, Some(17)),
+        (1, None),
+        (100_000, None),
+        (100_001, Some(17)),
+        (u32::MAX, Some(17)),
     ] {
-        assert_eq!(rt;
-            declined(CountEnd::new(
-                Increments {
-                    x: r.0,
-                    y: r.1,
-                    z: r.2,
-                },
-                point,
-            )),
-            r.3
-        );
+        assert_eq!(rt; declined(ScaleEnd::new(*increment, origin)), *told);
+    }
+    for (increments, told) in &[
+        (
+            Increments {
+                x: 1,
+                y: 100_000,
+                z: 7,
+            },
+            None,
+        ),
+        (Increments { x: 0, y: 1, z: 1 }, Some(17)),
+        (Increments { x: 1, y: 0, z: 1 }, Some(17)),
+        (
+            Increments {
+                x: 1,
+                y: 1,
+                z: 100_001,
+            },
+            Some(17),
+        ),
+    ] {
+        assert_eq!(rt; declined(CountEnd::new(*increments, origin)), *told);
     }
     Ok(())
 }
@@ -214,28 +190,28 @@ fn limits_belong_to_the_box(rt: HostRuntime) -> Result<(), Fail> {
         &rt,
         &end,
         &[
-            (-5, 0, 10, (0, 0, 0)),
-            (5, 0, 20, (0, 0, 0)),
-            (-6, 0, 10, (15, 1, 0)),
-            (5, 1, 20, (15, 2, 0)),
-            (5, 0, 21, (15, 3, 0)),
-            (0, 1, 0, (15, 2, 0)),
-            (i64::MIN, i64::MAX, 0, (15, 1, 0)),
+            ((-5, 0, 10), None),
+            ((5, 0, 20), None),
+            ((-6, 0, 10), Some((15, 1, 0))),
+            ((5, 1, 20), Some((15, 2, 0))),
+            ((5, 0, 21), Some((15, 3, 0))),
+            ((0, 1, 0), Some((15, 2, 0))),
+            ((i64::MIN, i64::MAX, 0), Some((15, 1, 0))),
         ],
     );
-    check_held(&rt, &end, 0, 0, 0);
+    check_held(&rt, &end, (0, 0, 0));
     // what is held may lie outside the box
     check_moved(
         &rt,
         &mut end,
         &[
-            (5, 0, 15, (0, 0, 0), (10, 0, 20)),
-            (5, 0, 9, (15, 3, 0), (10, 0, 20)),
+            ((5, 0, 15), None, (10, 0, 20)),
+            ((5, 0, 9), Some((15, 3, 0)), (10, 0, 20)),
         ],
     );
     // no point is within this box
     let mut none = made(ScaleEnd::new(1, cube(1, -1)?))?;
-    check_moved(&rt, &mut none, &[(0, 0, 0, (15, 1, 0), (0, 0, 0))]);
+    check_moved(&rt, &mut none, &[((0, 0, 0), Some((15, 1, 0)), (0, 0, 0))]);
     Ok(())
 }
 
@@ -257,15 +233,15 @@ fn questions(rt: HostRuntime) -> Result<(), Fail> {
         assert_eq!(rt; made(pile.limit(r.0, r.1, Side::Upper))?, r.3);
     }
     for r in &[(2, 1), (usize::MAX, 1), (0, 0), (1, 4)] {
-        assert_eq!(rt; declined(pile.limit(r.0, r.1, Side::Lower)), 17);
+        assert_eq!(rt; declined(pile.limit(r.0, r.1, Side::Lower)), Some(17));
     }
     for r in &[(1, 3), (2, 4), (3, 5)] {
         assert_eq!(rt; made(pile.increment(r.0))?, r.1);
         assert_eq!(rt; made(pile.held(r.0))?, 0);
     }
-    for r in &[0, 4, 255] {
-        assert_eq!(rt; declined(pile.increment(*r)), 17);
-        assert_eq!(rt; declined(pile.held(*r)), 17);
+    for axis in &[0, 4, 255] {
+        assert_eq!(rt; declined(pile.increment(*axis)), Some(17));
+        assert_eq!(rt; declined(pile.held(*axis)), Some(17));
     }
     Ok(())
 }
@@ -280,18 +256,18 @@ fn piles(rt: HostRuntime) -> Result<(), Fail> {
         &rt,
         &pile,
         &[
-            (0, 60, 300, (15, 2, 1)),
-            (0, 0, 201, (15, 3, 0)),
-            (50, 50, -50, (0, 0, 0)),
+            ((0, 60, 300), Some((15, 2, 1))),
+            ((0, 0, 201), Some((15, 3, 0))),
+            ((50, 50, -50), None),
         ],
     );
     check_moved(
         &rt,
         &mut pile,
         &[
-            (0, 60, 300, (15, 2, 1), (0, 0, 0)),
-            (201, 0, 0, (15, 1, 0), (0, 0, 0)),
-            (7, 0, 0, (0, 0, 0), (10, 0, 0)),
+            ((0, 60, 300), Some((15, 2, 1)), (0, 0, 0)),
+            ((201, 0, 0), Some((15, 1, 0)), (0, 0, 0)),
+            ((7, 0, 0), None, (10, 0, 0)),
         ],
     );
     let way = [
@@ -306,8 +282,8 @@ fn piles(rt: HostRuntime) -> Result<(), Fail> {
     ];
     let seen = visit_pile(&mut pile, &way);
     assert_eq!(rt; seen.taken, 2);
-    assert_eq!(rt; reply(seen.end), (15, 3, 1));
-    check_held(&rt, &pile, 30, -30, 50);
+    assert_eq!(rt; reply(seen.end), Some((15, 3, 1)));
+    check_held(&rt, &pile, (30, -30, 50));
     Ok(())
 }
 
@@ -315,7 +291,7 @@ fn piles(rt: HostRuntime) -> Result<(), Fail> {
 fn written_limits(rt: HostRuntime) -> Result<(), Fail> {
     let end = made(ScaleEnd::new(10, cube(-100, 100)?))?;
     let mut pile = WorkArea::over(cube(-200, 200)?, end);
-    check_moved(&rt, &mut pile, &[(-12, 15, 100, (0, 0, 0), (-10, 20, 100))]);
+    check_moved(&rt, &mut pile, &[((-12, 15, 100), None, (-10, 20, 100))]);
     // as G25 X0 and G26 Z40 write them
     pile.write_limits(Side::Lower, [Length::new(0), None, None]);
     pile.write_limits(Side::Upper, [None, None, Length::new(40)]);
@@ -323,15 +299,15 @@ fn written_limits(rt: HostRuntime) -> Result<(), Fail> {
         &rt,
         &pile,
         &[
-            (-1, 0, 0, (15, 1, 0)),
-            (0, -101, 41, (15, 2, 1)),
-            (0, -100, 41, (15, 3, 0)),
-            (100, -100, -100, (0, 0, 0)),
+            ((-1, 0, 0), Some((15, 1, 0))),
+            ((0, -101, 41), Some((15, 2, 1))),
+            ((0, -100, 41), Some((15, 3, 0))),
+            ((100, -100, -100), None),
         ],
     );
     let below = pile.into_below();
     assert_eq!(rt; below.box_count(), 1);
-    check_asked(&rt, &below, &[(-1, 0, 41, (0, 0, 0))]);
-    check_held(&rt, &below, -10, 20, 100);
+    check_asked(&rt, &below, &[((-1, 0, 41), None)]);
+    check_held(&rt, &below, (-10, 20, 100));
     Ok(())
 }
