@@ -1,9 +1,9 @@
 -- The typed block of the bytes, from what is gathered.
-use Rattle.std.proofs.Common.{◌≡◌, ℕ, ◌<◌, ◌≤◌, Bool, cond, leb, List, length, Err, Result, sym, ap, ◌∙◌, ⊎_elim, arith}
+use Rattle.std.proofs.Common.{◌≡◌, ℕ, ◌<◌, ◌≤◌, Bool, cond, List, length, Err, Result, sym, ap, ◌∙◌}
+use Rattle.std.proofs.lemmas.Bool.{le-leb, lt-leb}
 use Rattle.units.specs.declared.fault.Fault.{Fault}
 use Rattle.units.specs.declared.fault.Fault.TheVariants.{TooLong}
 use Rattle.reader.specs.WordList.{words as word_list}
-use Rattle.reader.proofs.Fronts.{split, le_yes, le_is}
 use Rattle.blocks.specs.declared.types.Block.{Block}
 use Rattle.blocks.specs.declared.gathered.Gathered.{Gathered}
 use Rattle.blocks.specs.Typed.{judged_in}
@@ -17,11 +17,11 @@ module _ (bs : List ℕ) (inch : Bool) where
 
   pub short : length bs ≤ 512 → block_of bs inch ≡ conclude inch (settle (word_list bs (length bs)))
   unfolding block_of
-  short l = ap choose (le_yes (length bs) 512 l)
+  short l = ap choose (le-leb (length bs) 512 l)
 
   pub too_long : 512 < length bs → Err TooLong ≡ block_of bs inch
   unfolding block_of
-  too_long l = sym (ap choose (⊎_elim (λ y. absurd (omega (arith, le_is (length bs) 512 y))) (λ n. n) (split (leb (length bs) 512))))
+  too_long l = sym (ap choose (lt-leb (length bs) 512 l))
 
   pub stopped : (f : Fault) → length bs ≤ 512 → Stops bs f → Err f ≡ block_of bs inch
   stopped f l s = sym (short l ∙ ap (conclude inch) s)

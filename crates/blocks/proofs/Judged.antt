@@ -1,8 +1,7 @@
 -- What is gathered decides as the words do.
 use Rattle.std.proofs.Common.{◌≡◌, ℕ, ◌<◌, Bool, true, false, cond, ltb, List, [], ◌∷◌, is_some, Some, None, Option, sym, refl, ap, ◌∙◌, arith}
 use Rattle.std.specs.List.{AllByRecursion}
-use Rattle.std.proofs.lemmas.Bool.{false≢true}
-use Rattle.std.proofs.lemmas.Bool.Decides.{nat_tests}
+use Rattle.std.proofs.lemmas.Bool.{lt-ltb, le-ltb}
 use Rattle.units.specs.declared.axis.Axis.{Axis}
 use Rattle.units.specs.declared.axis.Axis.TheVariants.{X, Y, Z}
 use Rattle.reader.specs.declared.types.Number.{Number}
@@ -17,6 +16,7 @@ use Rattle.blocks.specs.Order.{keep, leftmost, instruction, misplaced_by, order_
 use Rattle.blocks.specs.Rules.{unfit, measure, bad_axis, bad_rpl, bad, out_of_range_at, lesser, place_if, inch_in}
 use Rattle.blocks.specs.Typed.{ruled, made, judged, judged_in}
 use Rattle.blocks.specs.Gathers.{Rising}
+use Rattle.blocks.proofs.Options.{none_is}
 
 module _ (ws : List Item) where
   by_instruction : (b : Bool) → cond b (order_of ws).stray (order_of ws).late ≡ leftmost (misplaced_by b) ws
@@ -27,9 +27,6 @@ module _ (ws : List Item) where
 abbrev Below : ℕ → Option ℕ → Type 0
 Below p None = Unit {0}
 Below p (Some q) = q < p
-
-less_yes : (q p : ℕ) → q < p → ltb q p ≡ true
-less_yes q p l = grind (arith, nat_tests)
 
 pick_below : (p q t : ℕ) → q < p → t < p → (b : Bool) → cond b t q < p
 pick_below p q t l h true = h
@@ -43,14 +40,11 @@ lesser_below p (Some q) (Some t) l h = pick_below p q t l h (ltb t q)
 -- a place behind all others comes last
 late_first : (p : ℕ) (o : Option ℕ) → Below p o → lesser (Some p) o ≡ keep o (Some p)
 late_first p None l = refl
-late_first p (Some q) l = ap (λ b. Some (cond b q p)) (less_yes q p l)
-
-not_less : (q p : ℕ) → q < p → ltb p q ≡ false
-not_less q p l = grind (arith, nat_tests)
+late_first p (Some q) l = ap (λ b. Some (cond b q p)) (lt-ltb q p l)
 
 late_in : (p : ℕ) (a o : Option ℕ) → Below p a → lesser a (keep o (Some p)) ≡ keep (lesser a o) (Some p)
 late_in p None o l = refl
-late_in p (Some q) None l = ap (λ b. Some (cond b p q)) (not_less q p l)
+late_in p (Some q) None l = ap (λ b. Some (cond b p q)) (le-ltb p q (omega arith))
 late_in p (Some q) (Some t) l = refl
 
 module _ (test : Number → Bool) where
@@ -78,10 +72,6 @@ module _ (test : Number → Bool) where
   axis_below : (p : ℕ) (a : Axis) (ws : List Item) → AllByRecursion (λ y. y.place < p) ws → Below p (place_if test (find (axis_of a) ws))
   axis_below p a [] l = tt
   axis_below p a (x ∷ ws) l = place_over p (find (axis_of a) ws) (axis_of a x) (axis_below p a ws l.1) (axis_one p a x.says x.place l.0)
-
-some_none : {V : Type 0} (o : Option V) → is_some o ≡ false → o ≡ None
-some_none None e = refl
-some_none (Some v) e = absurd (false≢true (sym e))
 
 -- a number at the place p that comes last among a, b, c and d, in each of the four slots
 module _ (p : ℕ) (a b c d : Option ℕ) (la : Below p a) (lb : Below p b) (lc : Below p c) (ld : Below p d) where
@@ -130,10 +120,10 @@ module _ (m : Measure) where
 
   module _ (ws : List Item) (p : ℕ) (l : AllByRecursion (λ y. y.place < p) ws) (ih : least ws ≡ out_of_range_at m ws) where
     none_at : (a : Axis) → is_some (find (axis_of a) ws) ≡ false → at_axis_lem a ws ≡ None
-    none_at a e = ap (place_if (bad_axis m)) (some_none (find (axis_of a) ws) e)
+    none_at a e = ap (place_if (bad_axis m)) (none_is (find (axis_of a) ws) e)
 
     none_rpl : is_some (find rpl_of ws) ≡ false → at_rpl ws ≡ None
-    none_rpl e = ap (place_if (bad_rpl m)) (some_none (find rpl_of ws) e)
+    none_rpl e = ap (place_if (bad_rpl m)) (none_is (find rpl_of ws) e)
 
     bx : (a : Axis) → Below p (at_axis_lem a ws)
     bx a = axis_below (bad_axis m) p a ws l

@@ -1,3 +1,4 @@
+pub mod Options
 pub mod Measured
 pub mod Ordinaries
 pub mod Held

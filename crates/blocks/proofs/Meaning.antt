@@ -1,11 +1,12 @@
 -- `block_of` means what the rules say.
-use Rattle.std.proofs.Common.{◌≡◌, ℕ, ◌≤◌, Bool, true, false, cond, not, ◌&&◌, ◌||◌, ◌⊎◌, List, [], ◌∷◌, length, get_or, is_some, Some, None, Ok, Err, Option, Result, sym, refl, ap, ◌∙◌, subst, inl, inr, ⊎_elim, MatchResult}
+use Rattle.std.proofs.Common.{◌≡◌, ℕ, ◌≤◌, Bool, true, false, not, ◌&&◌, ◌||◌, ◌⊎◌, List, [], ◌∷◌, length, get_or, is_some, Some, None, Ok, Err, Option, Result, sym, refl, ap, ◌∙◌, subst, inl, inr, ⊎_elim, MatchResult}
 use Rattle.std.specs.List.{AllByRecursion}
-use Rattle.std.proofs.lemmas.Bool.{false≢true, cases_lt}
+use Rattle.std.proofs.lemmas.Bool.{false≢true, cases_lt, cases_Bool, not-false, or_parts}
+use Rattle.std.proofs.lemmas.Option.{same_Some, cond_some}
 use Rattle.units.specs.declared.axis.Axis.{Axis}
 use Rattle.units.specs.declared.axis.Axis.TheVariants.{X, Y, Z}
 use Rattle.units.specs.declared.fault.Fault.{Fault}
-use Rattle.units.specs.declared.fault.Fault.TheVariants.{TooLong, Repeated}
+use Rattle.units.specs.declared.fault.Fault.TheVariants.{Repeated}
 use Rattle.units.specs.declared.quantity.Angle.{Angle}
 use Rattle.reader.specs.declared.types.Number.{Number}
 use Rattle.reader.specs.declared.types.Said.{Said}
@@ -14,7 +15,6 @@ use Rattle.reader.specs.declared.types.Item.{Item}
 use Rattle.reader.specs.WordList.{Run, words}
 use Rattle.reader.specs.Words.{ItemIs, Declined}
 use Rattle.reader.specs.Reading.{reading}
-use Rattle.reader.proofs.Fronts.{split}
 use Rattle.reader.proofs.Meaning.{stand as reading_means}
 use Rattle.blocks.specs.declared.gathered.StepKind.{StepKind}
 use Rattle.blocks.specs.declared.gathered.StepKind.TheVariants.{Offset as an_offset, Turn as a_turn, Scale as a_scale, Mirror as a_mirror}
@@ -32,42 +32,8 @@ use Rattle.blocks.specs.Rules.{misplaced, unfit, unfit_with, unfit_frame, unfit_
 use Rattle.blocks.specs.Typed.{length_at, factor_at, angle_at, or_zero, lengths, factors, step_of, change_by, made, made_by, made_under, ruled}
 use Rattle.blocks.specs.Block.{go_on, settle, conclude, block_of}
 use Rattle.blocks.specs.Meaning.{Among, Right, FirstFault, Leftmost, PassedBy, ValueOf, given, absent, Values, TurnOf, StepIs, Bare, ChangeIs, Tells, Reads, Means, too_long, wrong_word, misplaced_word, unfit_words, out_of_range, right_block, BlockStands}
+use Rattle.blocks.proofs.Options.{over_none, over_some, keep_none, keep_some, hit_none, some_is, none_is}
 use Rattle.blocks.proofs.Concluded.{short, too_long as is_too_long}
-
-some≢none : {X : Type 0} (v : X) → Some v ≡ None → ⊥
-some≢none v e = false≢true (sym (ap is_some e))
-
-unwrap : {X : Type 0} → X → Option X → X
-unwrap d None = d
-unwrap d (Some v) = v
-
--- what over, keep and hit were made of
-over_none : {X : Type 0} (a b : Option X) → over a b ≡ None → (a ≡ None) × (b ≡ None)
-over_none a None e = (e, refl)
-over_none a (Some v) e = absurd (some≢none v e)
-
-over_some : {X : Type 0} (a b : Option X) (v : X) → over a b ≡ Some v → (a ≡ Some v) ⊎ (b ≡ Some v)
-over_some a None v e = inl e
-over_some a (Some u) v e = inr e
-
-keep_none : {X : Type 0} (a b : Option X) → keep a b ≡ None → (a ≡ None) × (b ≡ None)
-keep_none a None e = (e, refl)
-keep_none None (Some v) e = absurd (some≢none v e)
-keep_none (Some u) (Some v) e = absurd (some≢none u e)
-
-keep_some : {X : Type 0} (a b : Option X) (v : X) → keep a b ≡ Some v → (a ≡ Some v) ⊎ ((a ≡ None) × (b ≡ Some v))
-keep_some a None v e = inl e
-keep_some None (Some u) v e = inr (refl, e)
-keep_some (Some t) (Some u) v e = inl e
-
-hit_none : {X : Type 0} (b : Bool) (v : X) → hit b v ≡ None → b ≡ false
-hit_none true v e = absurd (some≢none v e)
-hit_none false v e = refl
-
-hit_some : {X : Type 0} (b : Bool) (v w : X) → hit b v ≡ Some w → (b ≡ true) × (v ≡ w)
-unfolding unwrap
-hit_some true v w e = (refl, ap (unwrap v) e)
-hit_some false v w e = absurd (some≢none w (sym e))
 
 -- a slot is empty exactly when no word of the list is its, and else holds one that is
 module _ {X : Type 0} (pick : Item → Option X) where
@@ -76,7 +42,7 @@ module _ {X : Type 0} (pick : Item → Option X) where
   find_none (x ∷ ws) e = let h = over_none (find pick ws) (pick x) e in (h.1, find_none ws h.0)
 
   pub find_some : (ws : List Item) (v : X) → find pick ws ≡ Some v → (x : Item) × Among ws x × (pick x ≡ Some v)
-  find_some [] v e = absurd (some≢none v (sym e))
+  find_some [] v e = absurd cc
   find_some (x ∷ ws) v e = ⊎_elim (λ l. let g = find_some ws v l in (g.0, inr g.1, g.2)) (λ r. (x, inl refl, r)) (over_some (find pick ws) (pick x) v e)
 
   none_find : (ws : List Item) → AllByRecursion (λ x. pick x ≡ None) ws → find pick ws ≡ None
@@ -85,11 +51,11 @@ module _ {X : Type 0} (pick : Item → Option X) where
 
 module _ (test : List Item → Said → Bool) where
   pub left_some : (ws : List Item) (p : ℕ) → leftmost test ws ≡ Some p → Leftmost test ws p
-  left_some [] p e = absurd (some≢none p (sym e))
+  left_some [] p e = absurd cc
   left_some (x ∷ ws) p e =
       ⊎_elim
       (λ l. let g = left_some ws p l in record { after = x ∷ g.after; word = g.word; earlier = g.earlier; parts = ap (λ t. x ∷ t) g.parts; passes = g.passes; told = g.told; none = g.none })
-      (λ r. let h = hit_some (test ws x.says) x.place p r.1 in record { after = []; word = x; earlier = ws; parts = refl; passes = h.0; told = sym h.1; none = r.0 })
+      (λ r. let h = cond_some (test ws x.says) x.place p r.1 in record { after = []; word = x; earlier = ws; parts = refl; passes = h.0; told = sym h.1; none = r.0 })
       (keep_some (leftmost test ws) (hit (test ws x.says) x.place) p e)
 
   pub left_none : (ws : List Item) → leftmost test ws ≡ None → PassedBy test ws
@@ -98,42 +64,16 @@ module _ (test : List Item → Said → Bool) where
 
 -- words from left to right
 
-is_err : {X : Type 0} → Result X Fault → Bool
-is_err (Ok v) = false
-is_err (Err f) = true
-
-fault_of : {X : Type 0} → Result X Fault → Fault
-fault_of (Ok v) = TooLong
-fault_of (Err f) = f
-
-items_of : Result (List Item) Fault → List Item
-items_of (Ok v) = v
-items_of (Err f) = []
-
-ok≢err : {X : Type 0} (v : X) (f : Fault) → Ok v ≡ Err f → ⊥
-unfolding is_err
-ok≢err v f e = false≢true (ap is_err e)
-
 -- what one word more was made of
 on_fault : (a : Result (List Item) Fault) (b : Result Item Fault) (f : Fault) → go_on a b ≡ Err f → (a ≡ Err f) ⊎ ((ws : List Item) × (a ≡ Ok ws) × ((b ≡ Err f) ⊎ ((x : Item) × (b ≡ Ok x) × (repeated ws x.says ≡ true) × (f ≡ Repeated x.place))))
-unfolding fault_of
 on_fault (Err g) b f e = inl e
-on_fault (Ok ws) (Err g) f e = inr (ws, refl, inl (ap (λ (h : Fault). Err h) (ap fault_of e)))
-on_fault (Ok ws) (Ok x) f e =
-    ⊎_elim
-    (λ y. inr (ws, refl, inr (x, refl, y, sym (ap fault_of (sym (ap (λ b. cond b (Err (Repeated x.place)) (Ok (x ∷ ws))) y) ∙ e)))))
-    (λ n. absurd (ok≢err (x ∷ ws) f (sym (ap (λ b. cond b (Err (Repeated x.place)) (Ok (x ∷ ws))) n) ∙ e)))
-    (split (repeated ws x.says))
+on_fault (Ok ws) (Err g) f e = inr (ws, refl, inl cc)
+on_fault (Ok ws) (Ok x) f e = ⊎_elim (λ y. let h = rw y at e in inr (ws, refl, inr (x, refl, y, cc))) (λ n. let h = rw n at e in absurd cc) (cases_Bool (repeated ws x.says))
 
 on_right : (a : Result (List Item) Fault) (b : Result Item Fault) (vs : List Item) → go_on a b ≡ Ok vs → (ws : List Item) × (x : Item) × (a ≡ Ok ws) × (b ≡ Ok x) × (repeated ws x.says ≡ false) × (vs ≡ x ∷ ws)
-unfolding items_of
-on_right (Err g) b vs e = absurd (ok≢err vs g (sym e))
-on_right (Ok ws) (Err g) vs e = absurd (ok≢err vs g (sym e))
-on_right (Ok ws) (Ok x) vs e =
-    ⊎_elim
-    (λ y. absurd (ok≢err vs (Repeated x.place) (sym e ∙ ap (λ b. cond b (Err (Repeated x.place)) (Ok (x ∷ ws))) y)))
-    (λ n. (ws, x, refl, refl, n, ap items_of (sym e ∙ ap (λ b. cond b (Err (Repeated x.place)) (Ok (x ∷ ws))) n)))
-    (split (repeated ws x.says))
+on_right (Err g) b vs e = absurd cc
+on_right (Ok ws) (Err g) vs e = absurd cc
+on_right (Ok ws) (Ok x) vs e = ⊎_elim (λ y. let h = rw y at e in absurd cc) (λ n. let h = rw n at e in (ws, x, refl, refl, n, cc)) (cases_Bool (repeated ws x.says))
 
 says_item : (r : Run) (x : Item) → reading r.text r.at ≡ Ok x → ItemIs r.text r.at x
 says_item r x e = subst (λ o. MatchResult o (ItemIs r.text r.at) (Declined r.text r.at)) e (reading_means r.text r.at).means
@@ -142,15 +82,16 @@ says_fault : (r : Run) (f : Fault) → reading r.text r.at ≡ Err f → Decline
 says_fault r f e = subst (λ o. MatchResult o (ItemIs r.text r.at) (Declined r.text r.at)) e (reading_means r.text r.at).means
 
 rights : (rs : List Run) (ws : List Item) → settle rs ≡ Ok ws → Right rs ws
-unfolding items_of
-rights [] ws e = subst (Right []) (ap items_of e) (record { says = tt; apart = tt })
+rights [] ws e =
+    let h : [] ≡ ws = cc in
+    subst (Right []) h (record { says = tt; apart = tt })
 rights (r ∷ rs) ws e =
     let h = on_right (settle rs) (reading r.text r.at) ws e in
     let g = rights rs h.0 h.2 in
     subst (Right (r ∷ rs)) (sym h.5) (record { says = (says_item r h.1 h.3, g.says); apart = (h.4, g.apart) })
 
 faults : (rs : List Run) (f : Fault) → settle rs ≡ Err f → FirstFault rs f
-faults [] f e = absurd (ok≢err [] f e)
+faults [] f e = absurd cc
 faults (r ∷ rs) f e =
     ⊎_elim
     (λ l. let g = faults rs f l in record { after = r ∷ g.after; word = g.word; earlier = g.earlier; items = g.items; parts = ap (λ t. r ∷ t) g.parts; before = g.before; wrong = g.wrong })
@@ -169,47 +110,38 @@ faults (r ∷ rs) f e =
 
 axis_same : (a b : Axis) → same_axis a b ≡ true → a ≡ b
 axis_same X X e = refl
-axis_same X Y e = absurd (false≢true e)
-axis_same X Z e = absurd (false≢true e)
-axis_same Y X e = absurd (false≢true e)
+axis_same X Y e = absurd cc
+axis_same X Z e = absurd cc
+axis_same Y X e = absurd cc
 axis_same Y Y e = refl
-axis_same Y Z e = absurd (false≢true e)
-axis_same Z X e = absurd (false≢true e)
-axis_same Z Y e = absurd (false≢true e)
+axis_same Y Z e = absurd cc
+axis_same Z X e = absurd cc
+axis_same Z Y e = absurd cc
 axis_same Z Z e = refl
 
 axis_said : (a : Axis) (s : Said) (p : ℕ) (m : Measured) → axis_of a (record { says = s; place = p }) ≡ Some m → s ≡ s_axis a m.number
-axis_said a (s_name f) p m e = absurd (some≢none m (sym e))
-axis_said a (s_axis b n) p m e = let h = hit_some (same_axis a b) (record { number = n; place = p }) m e in let q = axis_same a b h.0 in λ i. s_axis (sym q i) (h.1 i).number
-axis_said a (s_rpl n) p m e = absurd (some≢none m (sym e))
-axis_said a (s_g g) p m e = absurd (some≢none m (sym e))
-axis_said a (s_m f) p m e = absurd (some≢none m (sym e))
-axis_said a s_n p m e = absurd (some≢none m (sym e))
-axis_said a (s_passed b) p m e = absurd (some≢none m (sym e))
+axis_said a (s_name f) p m e = absurd cc
+axis_said a (s_axis b n) p m e = let h = cond_some (same_axis a b) (record { number = n; place = p }) m e in let q = axis_same a b h.0 in λ i. s_axis (sym q i) (h.1 i).number
+axis_said a (s_rpl n) p m e = absurd cc
+axis_said a (s_g g) p m e = absurd cc
+axis_said a (s_m f) p m e = absurd cc
+axis_said a s_n p m e = absurd cc
+axis_said a (s_passed b) p m e = absurd cc
 
 rpl_said : (s : Said) (p : ℕ) (m : Measured) → rpl_of (record { says = s; place = p }) ≡ Some m → s ≡ s_rpl m.number
-unfolding unwrap
-rpl_said (s_name f) p m e = absurd (some≢none m (sym e))
-rpl_said (s_axis b n) p m e = absurd (some≢none m (sym e))
-rpl_said (s_rpl n) p m e = ap (λ k. s_rpl (unwrap m k).number) e
-rpl_said (s_g g) p m e = absurd (some≢none m (sym e))
-rpl_said (s_m f) p m e = absurd (some≢none m (sym e))
-rpl_said s_n p m e = absurd (some≢none m (sym e))
-rpl_said (s_passed b) p m e = absurd (some≢none m (sym e))
+rpl_said (s_name f) p m e = absurd cc
+rpl_said (s_axis b n) p m e = absurd cc
+rpl_said (s_rpl n) p m e = ap (λ (k : Measured). s_rpl k.number) (same_Some _ _ e)
+rpl_said (s_g g) p m e = absurd cc
+rpl_said (s_m f) p m e = absurd cc
+rpl_said s_n p m e = absurd cc
+rpl_said (s_passed b) p m e = absurd cc
 
 -- a test that every word of a list fails
 passed_among : (test : Said → Bool) (ws : List Item) (x : Item) → PassedBy (λ earlier s. test s) ws → Among ws x → test x.says ≡ false
 passed_among test [] x h i = absurd i
 passed_among test (y ∷ ws) x h (inl e) = subst (λ z. test z.says ≡ false) e h.0
 passed_among test (y ∷ ws) x h (inr i) = passed_among test ws x h.1 i
-
-not_false : (b : Bool) → not b ≡ false → b ≡ true
-not_false true e = refl
-not_false false e = absurd (false≢true (sym e))
-
-some_is : {X : Type 0} (o : Option X) → is_some o ≡ true → (v : X) × (o ≡ Some v)
-some_is None e = absurd (false≢true e)
-some_is (Some v) e = (v, refl)
 
 module _ {V : Type 0} (value : Number → Option V) (at : Option Measured → Option V) (at_none : at None ≡ None) (at_some : (m : Measured) → at (Some m) ≡ value m.number) (ws : List Item) (m : Measure) (right : (n : Number) → bad_axis m n ≡ false → is_some (value n) ≡ true) (h : PassedBy (λ earlier x. bad m x) ws) where
   one_value : (a : Axis) (o : Option Measured) → find (axis_of a) ws ≡ o → ValueOf value ws a (at o)
@@ -231,18 +163,18 @@ module _ {V : Type 0} (value : Number → Option V) (at : Option Measured → Op
 
 module _ (ws : List Item) where
   lengths_are : (inch : Bool) → PassedBy (λ earlier x. bad (a_length inch) x) ws → Values (length_in inch) ws (lengths inch (slots_of ws).axes)
-  lengths_are inch h = three (length_in inch) (length_at inch) refl (λ m. refl) ws (a_length inch) (λ n e. not_false (is_some (length_in inch n)) e) h
+  lengths_are inch h = three (length_in inch) (length_at inch) refl (λ m. refl) ws (a_length inch) (λ n e. not-false (is_some (length_in inch n)) e) h
 
   factors_are : PassedBy (λ earlier x. bad a_factor x) ws → Values factor_in ws (factors (slots_of ws).axes)
-  factors_are h = three factor_in factor_at refl (λ m. refl) ws a_factor (λ n e. not_false (is_some (factor_in n)) e) h
+  factors_are h = three factor_in factor_at refl (λ m. refl) ws a_factor (λ n e. not-false (is_some (factor_in n)) e) h
 
   turn_is : PassedBy (λ earlier x. bad an_angle x) ws → (o : Option Measured) → find rpl_of ws ≡ o → is_some o ≡ true → TurnOf ws (angle_at o)
-  turn_is h None e some = absurd (false≢true some)
+  turn_is h None e some = absurd cc
   turn_is h (Some w) e some =
       let g = find_some rpl_of ws w e in
       let s = rpl_said g.0.says g.0.place w g.2 in
       let good = passed_among (bad an_angle) ws g.0 h g.1 in
-      let v = some_is (angle_in w.number) (not_false (is_some (angle_in w.number)) (subst (λ x. bad an_angle x ≡ false) s good)) in
+      let v = some_is (angle_in w.number) (not-false (is_some (angle_in w.number)) (subst (λ x. bad an_angle x ≡ false) s good)) in
       record { number = w.number; place = g.0.place; among = subst (λ x. Among ws (record { says = x; place = g.0.place })) s g.1; value = v.1 ∙ ap (λ (o : Option Angle). Some (or_zero o)) (sym v.1) }
 
   named_are : (a : Axis) → get_or (is_some (find (axis_of X) ws) ∷ is_some (find (axis_of Y) ws) ∷ is_some (find (axis_of Z) ws) ∷ []) (axis_index a) false ≡ is_some (find (axis_of a) ws)
@@ -274,17 +206,9 @@ passed_all : (test : Said → Bool) (ws : List Item) → PassedBy (λ earlier x.
 passed_all test [] h = tt
 passed_all test (x ∷ ws) h = (h.0, passed_all test ws h.1)
 
-or_none : (a b : Bool) → (a || b) ≡ false → (a ≡ false) × (b ≡ false)
-or_none true b e = absurd (false≢true (sym e))
-or_none false b e = (refl, e)
-
-none_is : {X : Type 0} (o : Option X) → is_some o ≡ false → o ≡ None
-none_is None e = refl
-none_is (Some v) e = absurd (false≢true (sym e))
-
 bare_is : (ws : List Item) → (axes ws || rpl ws) ≡ false → Bare ws
 bare_is ws e =
-    let h = or_none (axes ws) (rpl ws) e in
+    let h = or_parts (axes ws) (rpl ws) e in
     (passed_all is_axis ws (left_none (λ earlier x. is_axis x) ws (none_is (leftmost (λ earlier x. is_axis x) ws) h.0)), find_none rpl_of ws (none_is (find rpl_of ws) h.1))
 
 not_bare : (ws : List Item) → (axes ws || rpl ws) ≡ true → Bare ws → ⊥
@@ -295,10 +219,10 @@ turn_needs : (kind : StepKind) (additive axes rpl : Bool) → unfit_frame kind a
 turn_needs kind additive axes rpl e w t = needs (subst (λ k. unfit_frame k additive axes rpl ≡ false) t e) w
   where
     by_additive : (a r : Bool) → (a || (true && not r)) ≡ false → r ≡ true
-    by_additive a r f = not_false r (or_none a (not r) f).1
+    by_additive a r f = not-false r (or_parts a (not r) f).1
 
     by_words : (d a r : Bool) → (a || (d && not r)) ≡ false → (a || r) ≡ true → r ≡ true
-    by_words d true r f g = absurd (false≢true (sym f))
+    by_words d true r f g = absurd cc
     by_words d false r f g = g
 
     needs : unfit_with additive rpl axes ≡ false → (additive ≡ true) ⊎ ((axes || rpl) ≡ true) → rpl ≡ true

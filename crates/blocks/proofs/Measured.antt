@@ -1,16 +1,15 @@
 -- What the range tests give.
-use Rattle.std.proofs.Common.{◌≡◌, ℕ, suc, ◌-◌, ◌^◌, ◌<◌, ◌≤◌, Bool, false, cond, leb, ℤ, pos, negsuc, ◌+ℤ◌, ◌<ℤ◌, ◌≤ℤ◌, unsigned_abs, Ok, Err, Some, None, Option, Result, refl, sym, ap, ◌∙◌, ⊎_elim, arith, w64, SFits, MatchOption}
+use Rattle.std.proofs.Common.{◌≡◌, ℕ, suc, ◌-◌, ◌^◌, ◌≤◌, Bool, cond, leb, ℤ, pos, negsuc, ◌+ℤ◌, ◌<ℤ◌, ◌≤ℤ◌, unsigned_abs, Ok, Err, Some, None, Option, Result, refl, sym, ap, ◌∙◌, ⊎_elim, arith, w64, SFits, MatchOption}
 use Rattle.std.specs.Result.{OkIff, result_ok}
 use Rattle.std.specs.Option.{SomeIff}
 use Rattle.std.specs.Int.{FitsUnsignedBits}
-use Rattle.std.proofs.lemmas.Bool.{cases_lt}
+use Rattle.std.proofs.lemmas.Bool.{cases_lt, cases_Bool, leb-true, le-leb, lt-leb}
 use borrow.Author.Differences.{ints}
 use Rattle.units.specs.declared.quantity.Length.{Length}
 use Rattle.units.specs.declared.quantity.Angle.{Angle}
 use Rattle.units.specs.Quantities.{length_of, factor_of, angle_of}
 use Rattle.units.proofs.Ranged.{length_none, factor_large, angle_none}
 use Rattle.reader.specs.declared.types.Number.{Number}
-use Rattle.reader.proofs.Fronts.{split, le_yes, le_is}
 use Rattle.blocks.specs.Measures.{most_in, units_in, length_in, whole_factor, whole_angle}
 
 -- what is made of a number that is not below 0
@@ -36,9 +35,6 @@ pub factor_unsigned : (z : ℤ) → unsigned factor_of z ≡ whole_factor z
 factor_unsigned (pos n) = refl
 factor_unsigned (negsuc n) = refl
 
-not_le : (m n : ℕ) → n < m → leb m n ≡ false
-not_le m n l = ⊎_elim (λ y. absurd (omega (arith, le_is m n y))) (λ f. f) (split (leb m n))
-
 -- an angle that is not below 0, or has a full turn more
 module _ (z u v : ℤ) (r : Option Angle) (is : u ≡ v) (made : r ≡ unsigned angle_of u) where
   pub angle_unsigned : pos 0 ≤ℤ z → v ≡ z → r ≡ whole_angle z
@@ -56,7 +52,7 @@ module _ (z u v : ℤ) (r : Option Angle) (is : u ≡ v) (made : r ≡ unsigned 
       below (negsuc n) (negsuc k) f g i = absurd (omega (arith, ints))
       below (pos n) (negsuc k) f g i =
           let same : n ≡ 3600000 - suc k = omega (arith, ints) in
-          ap angle_of same ∙ sym (ap (λ b. cond b None (angle_of (3600000 - suc k))) (not_le 3600000 (suc k) (omega (arith, ints))))
+          ap angle_of same ∙ sym (ap (λ b. cond b None (angle_of (3600000 - suc k))) (lt-leb 3600000 (suc k) (omega (arith, ints))))
 
 -- no length is beyond 64 bits
 length_far : (z : ℤ) → (SFits w64 z → ⊥) → length_of z ≡ None
@@ -68,8 +64,8 @@ module _ (n : Number) (most : ℕ) (units : ℤ) where
   length_by b = cond b (length_of units) None
 
   of_units : (o : Option ℤ) (r : Option Length) → SomeIff o ((n.decimals ≤ most) × SFits w64 units) units → MatchOption o (r ≡ None) (λ z. r ≡ length_of z) → r ≡ length_by (leb n.decimals most)
-  of_units None r h m = m ∙ sym (⊎_elim (λ y. ap length_by y ∙ length_far units (λ f. h (le_is n.decimals most y, f))) (λ f. ap length_by f) (split (leb n.decimals most)))
-  of_units (Some z) r h m = m ∙ ap length_of h.1 ∙ sym (ap length_by (le_yes n.decimals most h.0.0))
+  of_units None r h m = m ∙ sym (⊎_elim (λ y. ap length_by y ∙ length_far units (λ f. h (leb-true n.decimals most y, f))) (λ f. ap length_by f) (cases_Bool (leb n.decimals most)))
+  of_units (Some z) r h m = m ∙ ap length_of h.1 ∙ sym (ap length_by (le-leb n.decimals most h.0.0))
 
 pub length_of_units : (inch : Bool) (n : Number) (o : Option ℤ) (r : Option Length) → SomeIff o ((n.decimals ≤ most_in inch) × SFits w64 (units_in inch n)) (units_in inch n) → MatchOption o (r ≡ None) (λ z. r ≡ length_of z) → r ≡ length_in inch n
 length_of_units inch n = of_units n (most_in inch) (units_in inch n)

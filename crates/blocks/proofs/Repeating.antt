@@ -1,7 +1,8 @@
 -- A word is repeated when as many earlier words have its address or group as may stand.
-use Rattle.std.proofs.Common.{◌≡◌, ℕ, ◌+◌, Bool, true, false, cond, ◌||◌, eqb, leb, ◌⊎◌, List, [], ◌∷◌, is_some, Some, None, Option, sym, refl, ap, ◌∙◌, inl, inr, ⊎_elim, zero-add, arith}
+use Rattle.std.proofs.Common.{◌≡◌, ℕ, ◌+◌, Bool, true, false, cond, ◌||◌, eqb, leb, List, [], ◌∷◌, is_some, Some, None, Option, sym, refl, ap, ◌∙◌, ⊎_elim, zero-add, arith}
 use Rattle.std.specs.List.{AllByRecursion}
-use Rattle.std.proofs.lemmas.Bool.{false≢true}
+use Rattle.std.proofs.lemmas.Bool.{le-leb}
+use Rattle.std.proofs.lemmas.Option.{same_Some}
 use Rattle.units.specs.declared.axis.Axis.{Axis}
 use Rattle.reader.specs.declared.functions.GFunction.{GFunction}
 use Rattle.reader.specs.declared.functions.GFunction.TheVariants.{Motion, Plane, Settable, Machine, Unit as LengthsIn, Distance, Limit}
@@ -13,18 +14,18 @@ use Rattle.reader.specs.declared.types.Number.{Number}
 use Rattle.reader.specs.declared.types.Said.{Said}
 use Rattle.reader.specs.declared.types.Said.TheVariants.{Name as s_name, Axis as s_axis, Rpl as s_rpl, G as s_g, M as s_m, N as s_n, Passed as s_passed}
 use Rattle.reader.specs.declared.types.Item.{Item}
-use Rattle.reader.proofs.Fronts.{le_yes}
 use Rattle.blocks.specs.declared.gathered.Instruction.{Instruction}
 use Rattle.blocks.specs.declared.gathered.Placed.{Placed}
 use Rattle.blocks.specs.Slots.{over, hit, same_axis}
 use Rattle.blocks.specs.Found.{find, has, is_name, is_passed, is_n, axis_of, rpl_of, g_of, motion_of, plane_of, settable_of, machine_of, unit_of, distance_of, is_limit, count_m, ends_m, repeated_g, repeated}
-use Rattle.blocks.specs.Order.{keep, instructs, placed, instruction}
+use Rattle.blocks.specs.Order.{instructs, placed, instruction}
 use Rattle.blocks.specs.Repeating.{group_index, kin, count, most, is_end, Finds, FirstInstruction, Kinds}
+use Rattle.blocks.proofs.Options.{keep_none, keep_some}
 use Rattle.blocks.proofs.Meaning.{find_none, find_some}
 
 -- one is there exactly when at least one is counted
 more : (b : Bool) (n : ℕ) → leb 1 (cond b 1 0 + n) ≡ (b || leb 1 n)
-more true n = le_yes 1 (1 + n) (omega arith)
+more true n = le-leb 1 (1 + n) (omega arith)
 more false n = ap (leb 1) (zero-add n)
 
 has_count : (test other : Said → Bool) → ((x : Said) → test x ≡ other x) → (ws : List Item) → has test ws ≡ leb 1 (count other ws)
@@ -205,43 +206,25 @@ again ws s_n = has_count is_n (kin s_n) n_kin ws
 again ws (s_passed a) = has_count (is_passed a) (kin (s_passed a)) (passed_kin a) ws
 
 -- the first instruction
-some≢none : {V : Type 0} (v : V) → Some v ≡ None → ⊥
-some≢none v e = false≢true (sym (ap is_some e))
-
 placed_none : (o : Option Instruction) (p : ℕ) → placed o p ≡ None → o ≡ None
 placed_none None p e = refl
-placed_none (Some b) p e = absurd (some≢none _ e)
-
-unplaced : Placed → Option Placed → Placed
-unplaced d None = d
-unplaced d (Some i) = i
+placed_none (Some b) p e = absurd cc
 
 placed_some : (o : Option Instruction) (p : ℕ) (i : Placed) → placed o p ≡ Some i → (o ≡ Some i.by) × (i.place ≡ p)
-unfolding unplaced
-placed_some None p i e = absurd (some≢none i (sym e))
-placed_some (Some b) p i e = (ap (λ k. Some (unplaced i k).by) e, sym (ap (λ k. (unplaced i k).place) e))
-
-keep_both : (a b : Option Placed) → keep a b ≡ None → (a ≡ None) × (b ≡ None)
-keep_both a None e = (e, refl)
-keep_both None (Some v) e = absurd (some≢none v e)
-keep_both (Some u) (Some v) e = absurd (some≢none u e)
-
-keep_either : (a b : Option Placed) (v : Placed) → keep a b ≡ Some v → (a ≡ Some v) ⊎ ((a ≡ None) × (b ≡ Some v))
-keep_either a None v e = inl e
-keep_either None (Some u) v e = inr (refl, e)
-keep_either (Some t) (Some u) v e = inl e
+placed_some None p i e = absurd cc
+placed_some (Some b) p i e = let h = same_Some _ _ e in (ap (λ (k : Placed). Some k.by) h, sym (ap (λ (k : Placed). k.place) h))
 
 none_of : (ws : List Item) → instruction ws ≡ None → AllByRecursion (λ x. instructs x.says ≡ None) ws
 none_of [] e = tt
-none_of (x ∷ ws) e = let h = keep_both (instruction ws) (placed (instructs x.says) x.place) e in (placed_none (instructs x.says) x.place h.1, none_of ws h.0)
+none_of (x ∷ ws) e = let h = keep_none (instruction ws) (placed (instructs x.says) x.place) e in (placed_none (instructs x.says) x.place h.1, none_of ws h.0)
 
 first_of : (ws : List Item) (i : Placed) → instruction ws ≡ Some i → FirstInstruction ws i
-first_of [] i e = absurd (some≢none i (sym e))
+first_of [] i e = absurd cc
 first_of (x ∷ ws) i e =
     ⊎_elim
     (λ l. let g = first_of ws i l in record { after = x ∷ g.after; word = g.word; earlier = g.earlier; parts = ap (λ t. x ∷ t) g.parts; is = g.is; place = g.place; none = g.none })
     (λ r. let h = placed_some (instructs x.says) x.place i r.1 in record { after = []; word = x; earlier = ws; parts = refl; is = h.0; place = h.1; none = none_of ws r.0 })
-    (keep_either (instruction ws) (placed (instructs x.says) x.place) i e)
+    (keep_some (instruction ws) (placed (instructs x.says) x.place) i e)
 
 ends_is : (ws : List Item) → ends_m ws ≡ has is_end ws
 ends_is [] = refl

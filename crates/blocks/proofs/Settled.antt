@@ -1,6 +1,6 @@
 -- What the words up to a place say, turn by turn.
 use Rattle.std.proofs.Common.{◌≡◌, ℕ, zero, suc, ◌<◌, ◌≤◌, true, false, cond, List, ◌∷◌, length, Ok, Err, ap, ◌∙◌, ⊎_elim, arith}
-use Rattle.std.proofs.lemmas.Bool.{cases_lt}
+use Rattle.std.proofs.lemmas.Bool.{cases_lt, cases_Bool}
 use Rattle.units.specs.declared.fault.Fault.{Fault}
 use Rattle.units.specs.declared.fault.Fault.TheVariants.{Repeated}
 use Rattle.reader.specs.declared.types.Item.{Item}
@@ -9,7 +9,6 @@ use Rattle.reader.specs.Pieces.{RunRead}
 use Rattle.reader.specs.Words.{ItemIs, Declined}
 use Rattle.reader.specs.WordList.{starts, word_at, words}
 use Rattle.reader.specs.Reading.{reading}
-use Rattle.reader.proofs.Fronts.{split}
 use Rattle.reader.proofs.Listed.{words_on, words_read}
 use Rattle.reader.proofs.Says.{reads_right, reads_wrong}
 use Rattle.blocks.specs.Found.{repeated}
@@ -27,7 +26,7 @@ module _ (bs : List ℕ) where
       ⊎_elim
       (λ y. ap (λ b. settle (cond b (record { at = n; text = word_at bs n } ∷ words bs n) (words bs n))) y ∙ ap (λ r. go_on r (reading (word_at bs n) n)) h)
       (λ m. ap (λ b. settle (cond b (record { at = n; text = word_at bs n } ∷ words bs n) (words bs n))) m ∙ h)
-      (split (starts bs n)))
+      (cases_Bool (starts bs n)))
       (λ high. let z : suc n ≡ p = omega arith in ap (λ k. settle (words bs k)) z ∙ e)
       (cases_lt p (suc n))
 

@@ -1,11 +1,13 @@
 -- What one turn over the words keeps, and where it stops.
-use Rattle.std.proofs.Common.{◌≡◌, ℕ, ◌<◌, ◌≤◌, Bool, true, false, List, [], ◌∷◌, length, Ok, sym, refl, ap, ◌∙◌, arith}
+use Rattle.std.proofs.Common.{◌≡◌, ℕ, ◌<◌, ◌≤◌, Bool, true, false, List, [], ◌∷◌, length, Some, Ok, Err, Option, Result, sym, refl, ap, ◌∙◌, subst, arith}
 use Rattle.std.specs.List.{AllByRecursion}
 use Rattle.std.proofs.ByRecursion.{All-weaker}
 use Rattle.units.specs.declared.fault.Fault.{Fault}
 use Rattle.units.specs.declared.fault.Fault.TheVariants.{Repeated}
 use Rattle.reader.specs.declared.types.Item.{Item}
-use Rattle.reader.specs.Pieces.{Ended, CommentRead, ItemRead, DeclinedRead}
+use Rattle.reader.specs.declared.types.Word.{Word}
+use Rattle.reader.specs.Pieces.{Ended, CommentRead, ItemRead, DeclinedRead, GivenAs, WordRead}
+use Rattle.reader.specs.Words.{text_of, place_of, item_of}
 use Rattle.reader.specs.WordList.{words as word_list}
 use Rattle.blocks.specs.declared.gathered.Slots.{Slots}
 use Rattle.blocks.specs.declared.gathered.Order.{Order}
@@ -16,6 +18,17 @@ use Rattle.blocks.specs.Block.{settle}
 use Rattle.blocks.specs.Gathers.{Rising, Stops, Gathers}
 use Rattle.blocks.proofs.Held.{taken_is, put_is}
 use Rattle.blocks.proofs.Settled.{settle_on, settle_word, settle_wrong, settle_again}
+
+-- what `next_word` and `item` tell, over the block's bytes
+module _ (bs b : List ℕ) (p q : ℕ) (same : b ≡ bs) (r : Result Word Fault) (read : WordRead b p q (Some r)) where
+  here : WordRead bs p q (Some r)
+  here = subst (λ c. WordRead c p q (Some r)) same read
+
+  pub given : (w : Word) (o v : Option Item) → r ≡ Ok w → o ≡ item_of w → o ≡ v → GivenAs bs p q (text_of w) (place_of w) v
+  given w o v e f g = subst (GivenAs bs p q (text_of w) (place_of w)) (sym f ∙ g) (subst (λ t. WordRead bs p q (Some t)) e here)
+
+  pub declined : (f : Fault) → r ≡ Err f → DeclinedRead bs p q f
+  declined f e = subst (λ t. WordRead bs p q (Some t)) e here
 
 -- s and o hold the words that begin before p
 pub record Kept (bs : List ℕ) (p : ℕ) (s : Slots) (o : Order) : Type 0 where

@@ -21,12 +21,18 @@ fn gather(bytes: &[u8], g: &mut Gathered) -> Result<(), Fault>
 {
     let mut reader = BlockReader::new(bytes);
     while let Some(read) = reader.next_word() {
-        if let Some(x) = read?.item() {
-            if g.slots.taken(x.says) {
-                return Err(Fault::Repeated { place: x.place });
+        // No `?`: it would copy each word once more.
+        match read {
+            Ok(word) => {
+                if let Some(x) = word.item() {
+                    if g.slots.taken(x.says) {
+                        return Err(Fault::Repeated { place: x.place });
+                    }
+                    g.slots.put(x);
+                    g.order.note(x);
+                }
             }
-            g.slots.put(x);
-            g.order.note(x);
+            Err(fault) => return Err(fault),
         }
     }
     Ok(())

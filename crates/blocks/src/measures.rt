@@ -23,7 +23,7 @@ fn power(k: usize) -> i64
     requires { k ≤ 5 }
     ensures { result ≡ pos (10 ^ k) }
 {
-    const POWERS: [i64; 6] = [1, 10, 100, 1000, 10_000, 100_000];
+    static POWERS: [i64; 6] = [1, 10, 100, 1000, 10_000, 100_000];
     POWERS[k]
 }
 

@@ -121,14 +121,14 @@ mod tests {
             Ok(
                 Block::Limit {
                     side: Side::Upper,
-                    values: [_, _, Some(z)],
+                    values,
                     place,
                 },
             ) => {
-                assert!(rt; z.units == -200_000 && place == 0);
+                assert!(rt; values[2].map(|z| z.units) == Some(-200_000) && place == 0);
                 Ok(())
             }
-            _ => Err(Fail::new("upper limits with a Z word")),
+            _ => Err(Fail::new("upper limits")),
         }
     }
 }
