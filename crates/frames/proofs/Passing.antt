@@ -45,16 +45,6 @@ tested_passed n m tol p q e =
     let e2 = or_else_ok (first_axis (is_wide m tol p)) (λ a. Spread 0 a n) (Ok p) q e1.1 in
     record { near = none_found (is_beyond m p) e1.0; small = none_found (is_wide m tol p) e2.0 }
 
-module _ (n : ℕ) (m : List Bool) (tol : ℕ) (p : Image) where
-  pub told_beyond : (x : Axis) → Some x ≡ first_axis (is_beyond m p) → Err (Beyond 0 x n) ≡ tested n m tol p
-  told_beyond x e = ap (λ (o : Option Axis). or_else o (λ a. Beyond 0 a n) (or_else (first_axis (is_wide m tol p)) (λ a. Spread 0 a n) (Ok p))) e
-
-  pub told_wide : (x : Axis) → None ≡ first_axis (is_beyond m p) → Some x ≡ first_axis (is_wide m tol p) → Err (Spread 0 x n) ≡ tested n m tol p
-  told_wide x d e = ap₂ (λ (o w : Option Axis). or_else o (λ a. Beyond 0 a n) (or_else w (λ a. Spread 0 a n) (Ok p))) d e
-
-  pub told_none : None ≡ first_axis (is_beyond m p) → None ≡ first_axis (is_wide m tol p) → Ok p ≡ tested n m tol p
-  told_none d e = ap₂ (λ (o w : Option Axis). or_else o (λ a. Beyond 0 a n) (or_else w (λ a. Spread 0 a n) (Ok p))) d e
-
 pub through_at : (m : List Bool) (s : Step) (p : Image) (a : ℕ) → a < 3 → coordinate (through m s p) a ≡ moved_at m s p a
 through_at m s p zero h = refl
 through_at m s p (suc zero) h = refl
@@ -68,13 +58,19 @@ through_spread m s p (suc (suc zero)) h = refl
 through_spread m s p (suc (suc (suc a))) h = absurd (omega arith)
 
 -- a moved axis has passed the test, another is as it was
-pub near_by : (b : Bool) (z : ℤ) → too_far b z ≡ false → (b ≡ false → nat_abs z ≤ 2000000000) → nat_abs z ≤ 2000000000
+near_by : (b : Bool) (z : ℤ) → too_far b z ≡ false → (b ≡ false → nat_abs z ≤ 2000000000) → nat_abs z ≤ 2000000000
 near_by true z t h = ltb-false 2000000000 (nat_abs z) t
 near_by false z t h = h refl
 
-pub small_by : (tol : ℕ) (b : Bool) (z : ℕ) → tol ≤ 100000 → too_wide tol b z ≡ false → (b ≡ false → z ≤ 100000) → z ≤ 100000
+small_by : (tol : ℕ) (b : Bool) (z : ℕ) → tol ≤ 100000 → too_wide tol b z ≡ false → (b ≡ false → z ≤ 100000) → z ≤ 100000
 small_by tol true z l t h = le_trans (ltb-false tol z t) l
 small_by tol false z l t h = h refl
+
+pub passed_near : (m : List Bool) (p : Image) → None ≡ first_axis (is_beyond m p) → ((a : ℕ) → a < 3 → get_or m a false ≡ false → nat_abs (coordinate p a) ≤ 2000000000) → (a : ℕ) → a < 3 → nat_abs (coordinate p a) ≤ 2000000000
+passed_near m p e h a l = near_by (get_or m a false) (coordinate p a) (none_found (is_beyond m p) (sym e) a l) (h a l)
+
+pub passed_small : (m : List Bool) (tol : ℕ) (p : Image) → tol ≤ 100000 → None ≡ first_axis (is_wide m tol p) → ((a : ℕ) → a < 3 → get_or m a false ≡ false → spread_of p a ≤ 100000) → (a : ℕ) → a < 3 → spread_of p a ≤ 100000
+passed_small m tol p t e h a l = small_by tol (get_or m a false) (spread_of p a) t (none_found (is_wide m tol p) (sym e) a l) (h a l)
 
 -- the loop over the steps
 pub push_one : (ss : List Step) (i : ℕ) (m : List Bool) (tol : ℕ) (x p : Image) (d : Step) → 0 < i → i ≤ length ss → through_steps (drop i ss) (i + 1) m tol x ≡ Ok p →

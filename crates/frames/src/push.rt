@@ -1,7 +1,7 @@
 // Pushing a point: each step, the tests after it, and the whole chain.
 ghost use Rattle.std.specs.Prelude.{◌≡◌, ℕ, ◌+◌, ◌<◌, Bool, IfOk};
 ghost use Rattle.chains.specs.Chains.{steps_of};
-ghost use Rattle.frames.specs.Pushing.{first_axis, tested as passed, pushed, on_all, started};
+ghost use Rattle.frames.specs.Pushing.{first_axis, is_beyond, is_wide, tested as passed, pushed, on_all, started};
 ghost use Rattle.frames.specs.Axes.{GivesAt, image_of};
 ghost use Rattle.frames.specs.Theorems.{Sound, Limited};
 
@@ -42,26 +42,38 @@ fn first_axis<F: Fn(usize) -> bool>(test: F) -> Option<Axis>
 }
 
 impl Stepped {
+    fn first_beyond(&self) -> Option<Axis>
+        ensures { result ≡ first_axis (is_beyond self.now.moved self.now.image) }
+    {
+        first_axis(|a| self.moved[a] && self.image.at[a].unsigned_abs() > FAR)
+    }
+
+    fn first_wide(&self, tolerance: Tolerance) -> Option<Axis>
+        ensures { result ≡ first_axis (is_wide self.now.moved tolerance.units self.now.image) }
+    {
+        first_axis(|a| self.moved[a] && self.image.spread[a] > tolerance.units)
+    }
+
     /// 13 over the axes, then 14, each in axis order.
+    #[tactic(auto, using(crate::proofs::Passing::passed_near, crate::proofs::Passing::passed_small))]
     fn tested(self, step: u8, tolerance: Tolerance) -> Result<Tested, Fault>
         ensures { image_of result ≡ passed step self.moved tolerance.units self.image }
     {
-        let Stepped { image, moved } = self;
-        if let Some(axis) = first_axis(|a| moved[a] && image.at[a].unsigned_abs() > FAR) {
+        if let Some(axis) = self.first_beyond() {
             return Err(Fault::Beyond {
                 place: 0,
                 axis,
                 step,
             });
         }
-        if let Some(axis) = first_axis(|a| moved[a] && image.spread[a] > tolerance.units) {
+        if let Some(axis) = self.first_wide(tolerance) {
             return Err(Fault::Spread {
                 place: 0,
                 axis,
                 step,
             });
         }
-        Ok(Tested { image })
+        Ok(Tested { image: self.image })
     }
 }
 
