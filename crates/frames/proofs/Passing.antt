@@ -1,5 +1,5 @@
 -- What the tests let through, and the range that follows.
-use Rattle.std.proofs.Common.{◌≡◌, ℕ, zero, suc, ◌+◌, ◌-◌, ◌<◌, ◌≤◌, Bool, true, false, cond, ltb, List, [], ◌∷◌, length, get_or, take, drop, ℤ, nat_abs, Some, None, Ok, Err, Option, Result, sym, refl, ap, ◌∙◌, subst, ap₂, le_trans, arith, lit≤, length-take-le, drop-cons, get_or-take, ltb-false}
+use Rattle.std.proofs.Common.{◌≡◌, ℕ, zero, suc, ◌+◌, ◌-◌, ◌<◌, ◌≤◌, Bool, true, false, cond, List, [], ◌∷◌, length, get_or, take, drop, ℤ, nat_abs, Some, None, Ok, Err, Option, Result, sym, refl, ap, ◌∙◌, subst, ap₂, le_trans, arith, lit≤, length-take-le, drop-cons, get_or-take, ltb-false}
 use Rattle.units.specs.declared.axis.Axis.{Axis}
 use Rattle.units.specs.declared.axis.Axis.TheVariants.{X, Y, Z}
 use Rattle.units.specs.declared.quantity.Length.{Length}
@@ -9,7 +9,7 @@ use Rattle.chains.specs.declared.step.Step.{Step}
 use Rattle.chains.specs.declared.step.Step.TheVariants.{Offset}
 use Rattle.frames.specs.declared.image.Image.{Image}
 use Rattle.frames.specs.declared.tested.Stepped.{Stepped}
-use Rattle.frames.specs.Pushing.{first_axis, moved_at, moved_spread, through, too_far, too_wide, is_beyond, is_wide, or_else, tested, onward, through_steps, pushed, on_all, settable, started, length_at, carried, coordinate, spread_of, new_at, new_spread}
+use Rattle.frames.specs.Pushing.{first_axis, moved_at, moved_spread, through, too_far, too_wide, is_beyond, is_wide, or_else, tested, onward, through_steps, pushed, on_all, settable, started, length_at, carried, coordinate, spread_of, new_at}
 use Rattle.frames.specs.Theorems.{AllInRange}
 
 pub or_else_ok : (o : Option Axis) (f : Axis → Fault) (r : Result Image Fault) (q : Image) → or_else o f r ≡ Ok q → (o ≡ None) × (r ≡ Ok q)
