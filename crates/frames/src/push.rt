@@ -1,13 +1,14 @@
 // Pushing a point: each step, the tests after it, and the whole chain.
 ghost use Rattle.std.specs.Prelude.{◌≡◌, ℕ, ◌+◌, ◌<◌, Bool, IfOk};
 ghost use Rattle.chains.specs.Chains.{steps_of};
-ghost use Rattle.frames.specs.Pushing.{first_axis, is_beyond, is_wide, tested as passed, pushed, on_all, started};
+ghost use Rattle.frames.specs.Pushing.{first_axis, is_beyond, is_wide, through, tested as passed, pushed, on_all, started};
 ghost use Rattle.frames.specs.Axes.{GivesAt, image_of};
 ghost use Rattle.frames.specs.Theorems.{Sound, Limited};
 
 use crate::image::Image;
 use crate::tested::{Stepped, Tested};
 use chains::chain::Chain;
+use chains::step::Step;
 use units::axis::Axis;
 use units::fault::Fault;
 use units::quantity::{Length, Tolerance};
@@ -96,6 +97,19 @@ impl Tested {
             image: unpushed(values),
         }
     }
+
+    /// One step and the tests after it.
+    fn step_on(
+        self,
+        number: u8,
+        moved: [bool; 3],
+        tolerance: Tolerance,
+        step: &Step,
+    ) -> Result<Tested, Fault>
+        ensures { image_of result ≡ passed number moved tolerance.units (through moved step.now self.image) }
+    {
+        self.through(moved, step).tested(number, tolerance)
+    }
 }
 
 /// The settable offset names all three axes.
@@ -120,9 +134,7 @@ pub fn push(
 {
     let mut p = Tested::start(values);
     for i in (0..chain.count).rev() {
-        p = p
-            .through(moved, &chain.steps[i])
-            .tested(step_number(i), tolerance)?;
+        p = p.step_on(step_number(i), moved, tolerance, &chain.steps[i])?;
     }
     p.offset(moved, on_all(offset))
         .tested(SETTABLE, tolerance)
