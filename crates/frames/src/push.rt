@@ -34,6 +34,7 @@ fn first_axis<F: Fn(usize) -> bool>(test: F) -> Option<Axis>
     requires { (a : ℕ) → a < 3 → F.pre test a }
     ensures { (f : ℕ → Bool) → GivesAt (F.post test) f → result ≡ first_axis f }
 {
+    // By index over the axes: a rule of the project for the tests.
     for a in 0..3 {
         if test(a) {
             return Some(AXES[a]);
@@ -133,6 +134,7 @@ pub fn push(
     ensures limited { IfOk result (Limited moved tolerance.units values) }
 {
     let mut p = Tested::start(values);
+    // By index: a rule of the project for pushing, and a step is told by its place.
     for i in (0..chain.count).rev() {
         p = p.step_on(step_number(i), moved, tolerance, &chain.steps[i])?;
     }
