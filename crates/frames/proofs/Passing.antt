@@ -1,5 +1,5 @@
 -- What the tests let through, and the range that follows.
-use Rattle.std.proofs.Common.{◌≡◌, ℕ, zero, suc, ◌+◌, ◌-◌, ◌<◌, ◌≤◌, Bool, true, false, cond, ltb, List, [], ◌∷◌, length, get_or, take, drop, ℤ, nat_abs, Some, None, Ok, Err, Option, Result, sym, refl, ap, ◌∙◌, subst, ap₂, le_trans, arith, lit≤, length-take-le, drop-cons, get_or-take, ltb-false}
+use Rattle.std.proofs.Common.{◌≡◌, ℕ, zero, suc, ◌+◌, ◌-◌, ◌<◌, ◌≤◌, Bool, true, false, cond, List, [], ◌∷◌, length, get_or, take, drop, ℤ, nat_abs, Some, None, Ok, Err, Option, Result, sym, refl, ap, ◌∙◌, subst, ap₂, le_trans, arith, lit≤, length-take-le, drop-cons, get_or-take, ltb-false}
 use Rattle.units.specs.declared.axis.Axis.{Axis}
 use Rattle.units.specs.declared.axis.Axis.TheVariants.{X, Y, Z}
 use Rattle.units.specs.declared.quantity.Length.{Length}
@@ -9,7 +9,7 @@ use Rattle.chains.specs.declared.step.Step.{Step}
 use Rattle.chains.specs.declared.step.Step.TheVariants.{Offset}
 use Rattle.frames.specs.declared.image.Image.{Image}
 use Rattle.frames.specs.declared.tested.Stepped.{Stepped}
-use Rattle.frames.specs.Pushing.{first_axis, moved_at, moved_spread, through, too_far, too_wide, is_beyond, is_wide, or_else, tested, onward, through_steps, pushed, on_all, settable, started, length_at, carried, coordinate, spread_of, new_at, new_spread}
+use Rattle.frames.specs.Pushing.{first_axis, moved_at, moved_spread, through, too_far, too_wide, is_beyond, is_wide, or_else, tested, onward, through_steps, pushed, on_all, settable, started, length_at, carried, coordinate, spread_of, new_at}
 use Rattle.frames.specs.Theorems.{AllInRange}
 
 pub or_else_ok : (o : Option Axis) (f : Axis → Fault) (r : Result Image Fault) (q : Image) → or_else o f r ≡ Ok q → (o ≡ None) × (r ≡ Ok q)
@@ -45,16 +45,6 @@ tested_passed n m tol p q e =
     let e2 = or_else_ok (first_axis (is_wide m tol p)) (λ a. Spread 0 a n) (Ok p) q e1.1 in
     record { near = none_found (is_beyond m p) e1.0; small = none_found (is_wide m tol p) e2.0 }
 
-module _ (n : ℕ) (m : List Bool) (tol : ℕ) (p : Image) where
-  pub told_beyond : (x : Axis) → Some x ≡ first_axis (is_beyond m p) → Err (Beyond 0 x n) ≡ tested n m tol p
-  told_beyond x e = ap (λ (o : Option Axis). or_else o (λ a. Beyond 0 a n) (or_else (first_axis (is_wide m tol p)) (λ a. Spread 0 a n) (Ok p))) e
-
-  pub told_wide : (x : Axis) → None ≡ first_axis (is_beyond m p) → Some x ≡ first_axis (is_wide m tol p) → Err (Spread 0 x n) ≡ tested n m tol p
-  told_wide x d e = ap₂ (λ (o w : Option Axis). or_else o (λ a. Beyond 0 a n) (or_else w (λ a. Spread 0 a n) (Ok p))) d e
-
-  pub told_none : None ≡ first_axis (is_beyond m p) → None ≡ first_axis (is_wide m tol p) → Ok p ≡ tested n m tol p
-  told_none d e = ap₂ (λ (o w : Option Axis). or_else o (λ a. Beyond 0 a n) (or_else w (λ a. Spread 0 a n) (Ok p))) d e
-
 pub through_at : (m : List Bool) (s : Step) (p : Image) (a : ℕ) → a < 3 → coordinate (through m s p) a ≡ moved_at m s p a
 through_at m s p zero h = refl
 through_at m s p (suc zero) h = refl
@@ -68,13 +58,19 @@ through_spread m s p (suc (suc zero)) h = refl
 through_spread m s p (suc (suc (suc a))) h = absurd (omega arith)
 
 -- a moved axis has passed the test, another is as it was
-pub near_by : (b : Bool) (z : ℤ) → too_far b z ≡ false → (b ≡ false → nat_abs z ≤ 2000000000) → nat_abs z ≤ 2000000000
+near_by : (b : Bool) (z : ℤ) → too_far b z ≡ false → (b ≡ false → nat_abs z ≤ 2000000000) → nat_abs z ≤ 2000000000
 near_by true z t h = ltb-false 2000000000 (nat_abs z) t
 near_by false z t h = h refl
 
-pub small_by : (tol : ℕ) (b : Bool) (z : ℕ) → tol ≤ 100000 → too_wide tol b z ≡ false → (b ≡ false → z ≤ 100000) → z ≤ 100000
+small_by : (tol : ℕ) (b : Bool) (z : ℕ) → tol ≤ 100000 → too_wide tol b z ≡ false → (b ≡ false → z ≤ 100000) → z ≤ 100000
 small_by tol true z l t h = le_trans (ltb-false tol z t) l
 small_by tol false z l t h = h refl
+
+pub passed_near : (m : List Bool) (p : Image) → None ≡ first_axis (is_beyond m p) → ((a : ℕ) → a < 3 → get_or m a false ≡ false → nat_abs (coordinate p a) ≤ 2000000000) → (a : ℕ) → a < 3 → nat_abs (coordinate p a) ≤ 2000000000
+passed_near m p e h a l = near_by (get_or m a false) (coordinate p a) (none_found (is_beyond m p) (sym e) a l) (h a l)
+
+pub passed_small : (m : List Bool) (tol : ℕ) (p : Image) → tol ≤ 100000 → None ≡ first_axis (is_wide m tol p) → ((a : ℕ) → a < 3 → get_or m a false ≡ false → spread_of p a ≤ 100000) → (a : ℕ) → a < 3 → spread_of p a ≤ 100000
+passed_small m tol p t e h a l = small_by tol (get_or m a false) (spread_of p a) t (none_found (is_wide m tol p) (sym e) a l) (h a l)
 
 -- the loop over the steps
 pub push_one : (ss : List Step) (i : ℕ) (m : List Bool) (tol : ℕ) (x p : Image) (d : Step) → 0 < i → i ≤ length ss → through_steps (drop i ss) (i + 1) m tol x ≡ Ok p →
@@ -171,24 +167,23 @@ started_small values (suc zero) h = lit≤ tt
 started_small values (suc (suc zero)) h = lit≤ tt
 started_small values (suc (suc (suc a))) h = absurd (omega arith)
 
--- the loop of a push, from its invariant; q is the image before the tests
-module _ (steps : List Step) (k : ℕ) (m : List Bool) (tol : ℕ) (o values : List Length) (x : Image) (h : k ≤ length steps) (ex : x ≡ started values) (i : ℕ) (p : Image) (so : through_steps (drop i (take k steps)) (i + 1) m tol x ≡ Ok p) (q : Stepped) (em : q.moved ≡ m) where
+-- the loop of a push, from its invariant
+module _ (steps : List Step) (k : ℕ) (m : List Bool) (tol : ℕ) (o values : List Length) (x : Image) (h : k ≤ length steps) (ex : x ≡ started values) (i : ℕ) (p : Image) (so : through_steps (drop i (take k steps)) (i + 1) m tol x ≡ Ok p) where
   onward_last : (r : Result Image Fault) → through_steps (take k steps) 1 m tol x ≡ r → onward 9 m tol (settable o) r ≡ pushed (take k steps) m tol o values
   onward_last r e = ap (onward 9 m tol (settable o)) (sym e ∙ ap (through_steps (take k steps) 1 m tol) ex)
 
-  module _ (some : 0 < i) (within : i ≤ k) (d : Step) (eq : q.image ≡ through m (get_or steps (i - 1) d) p) (n : ℕ) (en : n ≡ i - 1 + 1) where
+  module _ (some : 0 < i) (within : i ≤ k) (d : Step) (n : ℕ) (en : n ≡ i - 1 + 1) where
     -- the step is told by its number n
-    numbered : (r : Result Image Fault) → r ≡ tested n q.moved tol q.image → through_steps (drop (i - 1) (take k steps)) (i - 1 + 1) m tol x ≡ r
-    numbered r e =
-        push_next steps k m tol x h i p d some within so
-        ∙ sym (e ∙ ap₂ (λ (b : List Bool) (j : ℕ). tested j b tol q.image) em en ∙ ap (tested (i - 1 + 1) m tol) eq)
+    numbered : (r : Result Image Fault) → r ≡ tested n m tol (through m (get_or steps (i - 1) d) p) → through_steps (drop (i - 1) (take k steps)) (i - 1 + 1) m tol x ≡ r
+    numbered r e = push_next steps k m tol x h i p d some within so ∙ sym (e ∙ ap (λ (j : ℕ). tested j m tol (through m (get_or steps (i - 1) d) p)) en)
 
-    pub loop_next : (r : Image) → Ok r ≡ tested n q.moved tol q.image → through_steps (drop (i - 1) (take k steps)) (i - 1 + 1) m tol x ≡ Ok r
-    loop_next r e = numbered (Ok r) e
+    pub loop_next : (q : Image) → Ok q ≡ tested n m tol (through m (get_or steps (i - 1) d) p) → through_steps (drop (i - 1) (take k steps)) (i - 1 + 1) m tol x ≡ Ok q
+    loop_next q e = numbered (Ok q) e
 
-    pub loop_refused : (f : Fault) → Err f ≡ tested n q.moved tol q.image → Err f ≡ pushed (take k steps) m tol o values
+    pub loop_refused : (f : Fault) → Err f ≡ tested n m tol (through m (get_or steps (i - 1) d) p) → Err f ≡ pushed (take k steps) m tol o values
     loop_refused f e = onward_last (Err f) (push_refused (take k steps) (i - 1) 1 m tol x f (numbered (Err f) e))
 
-  pub loop_ended : i ≤ 0 → (b : List (Option Length)) → b ≡ on_all o → q.image ≡ through m (Offset b) p → (r : Result Image Fault) → r ≡ tested 9 q.moved tol q.image → r ≡ pushed (take k steps) m tol o values
-  loop_ended z b eb eq r e =
+  -- q is the image after the settable offset
+  pub loop_ended : i ≤ 0 → (q : Stepped) → q.moved ≡ m → (b : List (Option Length)) → b ≡ on_all o → q.image ≡ through m (Offset b) p → (r : Result Image Fault) → r ≡ tested 9 q.moved tol q.image → r ≡ pushed (take k steps) m tol o values
+  loop_ended z q em b eb eq r e =
       e ∙ ap₂ (λ (a : List Bool) (w : Image). tested 9 a tol w) em eq ∙ ap (λ (t : List (Option Length)). tested 9 m tol (through m (Offset t) p)) eb ∙ onward_last (Ok p) (push_end (take k steps) i m tol x p z so)

@@ -1,13 +1,14 @@
 // Pushing a point: each step, the tests after it, and the whole chain.
 ghost use Rattle.std.specs.Prelude.{◌≡◌, ℕ, ◌+◌, ◌<◌, Bool, IfOk};
 ghost use Rattle.chains.specs.Chains.{steps_of};
-ghost use Rattle.frames.specs.Pushing.{first_axis, tested as passed, pushed, on_all, started};
+ghost use Rattle.frames.specs.Pushing.{first_axis, is_beyond, is_wide, through, tested as passed, pushed, on_all, started};
 ghost use Rattle.frames.specs.Axes.{GivesAt, image_of};
 ghost use Rattle.frames.specs.Theorems.{Sound, Limited};
 
 use crate::image::Image;
 use crate::tested::{Stepped, Tested};
 use chains::chain::Chain;
+use chains::step::Step;
 use units::axis::Axis;
 use units::fault::Fault;
 use units::quantity::{Length, Tolerance};
@@ -33,6 +34,7 @@ fn first_axis<F: Fn(usize) -> bool>(test: F) -> Option<Axis>
     requires { (a : ℕ) → a < 3 → F.pre test a }
     ensures { (f : ℕ → Bool) → GivesAt (F.post test) f → result ≡ first_axis f }
 {
+    // By index over the axes: a rule of the project for the tests.
     for a in 0..3 {
         if test(a) {
             return Some(AXES[a]);
@@ -42,26 +44,38 @@ fn first_axis<F: Fn(usize) -> bool>(test: F) -> Option<Axis>
 }
 
 impl Stepped {
+    fn first_beyond(&self) -> Option<Axis>
+        ensures { result ≡ first_axis (is_beyond self.now.moved self.now.image) }
+    {
+        first_axis(|a| self.moved[a] && self.image.at[a].unsigned_abs() > FAR)
+    }
+
+    fn first_wide(&self, tolerance: Tolerance) -> Option<Axis>
+        ensures { result ≡ first_axis (is_wide self.now.moved tolerance.units self.now.image) }
+    {
+        first_axis(|a| self.moved[a] && self.image.spread[a] > tolerance.units)
+    }
+
     /// 13 over the axes, then 14, each in axis order.
+    #[tactic(auto, using(crate::proofs::Passing::passed_near, crate::proofs::Passing::passed_small))]
     fn tested(self, step: u8, tolerance: Tolerance) -> Result<Tested, Fault>
         ensures { image_of result ≡ passed step self.moved tolerance.units self.image }
     {
-        let Stepped { image, moved } = self;
-        if let Some(axis) = first_axis(|a| moved[a] && image.at[a].unsigned_abs() > FAR) {
+        if let Some(axis) = self.first_beyond() {
             return Err(Fault::Beyond {
                 place: 0,
                 axis,
                 step,
             });
         }
-        if let Some(axis) = first_axis(|a| moved[a] && image.spread[a] > tolerance.units) {
+        if let Some(axis) = self.first_wide(tolerance) {
             return Err(Fault::Spread {
                 place: 0,
                 axis,
                 step,
             });
         }
-        Ok(Tested { image })
+        Ok(Tested { image: self.image })
     }
 }
 
@@ -83,6 +97,19 @@ impl Tested {
         Tested {
             image: unpushed(values),
         }
+    }
+
+    /// One step and the tests after it.
+    fn step_on(
+        self,
+        number: u8,
+        moved: [bool; 3],
+        tolerance: Tolerance,
+        step: &Step,
+    ) -> Result<Tested, Fault>
+        ensures { image_of result ≡ passed number moved tolerance.units (through moved step.now self.image) }
+    {
+        self.through(moved, step).tested(number, tolerance)
     }
 }
 
@@ -107,10 +134,9 @@ pub fn push(
     ensures limited { IfOk result (Limited moved tolerance.units values) }
 {
     let mut p = Tested::start(values);
+    // By index: a rule of the project for pushing, and a step is told by its place.
     for i in (0..chain.count).rev() {
-        p = p
-            .through(moved, &chain.steps[i])
-            .tested(step_number(i), tolerance)?;
+        p = p.step_on(step_number(i), moved, tolerance, &chain.steps[i])?;
     }
     p.offset(moved, on_all(offset))
         .tested(SETTABLE, tolerance)

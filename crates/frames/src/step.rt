@@ -20,6 +20,7 @@ impl Tested {
         ensures image { (s : Step) → GivesAt (F.post new) (new_axis s self.image) → result.image ≡ through moved s self.image }
     {
         let mut image = self.image;
+        // By index over the axes: a rule of the project for pushing.
         for a in 0..3 {
             if moved[a] {
                 let (at, spread) = new(a);

@@ -1,4 +1,4 @@
-use Rattle.std.proofs.Common.{◌≤◌, ℤ, ◌*ℤ◌, lit<, mul-le-mul, rules, w64, SFits}
+use Rattle.std.proofs.Common.{◌*ℤ◌, lit<, mul-le-mul, rules, w64, SFits}
 use Rattle.std.proofs.lemmas.Int.{to_z-of_z, fits_signed_mul, unsigned_abs-mul}
 use Rattle.frames.proofs.round.times.Goals as goal
 
