@@ -2,6 +2,8 @@
 use Rattle.std.specs.Prelude.{ℕ, cond, List, ℤ, Some, None, Ok, Err, Option, Result}
 use Rattle.units.specs.Faults.{at_place}
 use Rattle.units.specs.declared.axis.Point.{Point}
+use Rattle.units.specs.declared.axis.Side.{Side}
+use Rattle.units.specs.declared.quantity.Length.{Length}
 use Rattle.units.specs.declared.fault.Fault.{Fault}
 use Rattle.units.specs.declared.fault.Fault.TheVariants.{Ended}
 use Rattle.machine.specs.Replies.{reply_to, after_move}
@@ -59,9 +61,13 @@ abbrev pub ordinary_at : State → Ordinary → Option ℕ → Result Done Fault
 ordinary_at s o None = Ok (unmoved (with_setup s (selected s.setup o)))
 ordinary_at s o (Some place) = on_plan s o place (planned s.setup o)
 
+-- the work area's limits, written on one side
+abbrev pub limited : State → Side → List (Option Length) → Done
+limited s side values = unmoved (record { pile = with_limits side values s.pile; setup = s.setup })
+
 abbrev pub obeyed : State → Block → Result Done Fault
 obeyed s (Frame change place) = on_change s place (changed s.setup change)
-obeyed s (Limit side values place) = Ok (unmoved (record { pile = with_limits side values s.pile; setup = s.setup }))
+obeyed s (Limit side values place) = Ok (limited s side values)
 obeyed s (ordinary o) = ordinary_at s o o.first
 
 -- after the end of the programme every right block gets 9

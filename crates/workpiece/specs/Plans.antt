@@ -1,5 +1,5 @@
 -- Which axes a block moves, where to, and how far off that may be.
-use Rattle.std.specs.Prelude.{ℕ, Bool, false, cond, not, ◌&&◌, List, [], ◌∷◌, ℤ, pos, is_some, Some, None, Ok, Err, Option, Result, nat_lt, slice_index_or, unsigned_abs}
+use Rattle.std.specs.Prelude.{Bool, false, cond, not, ◌&&◌, List, [], ◌∷◌, ℤ, pos, is_some, Some, None, Ok, Err, Option, Result, nat_lt, slice_index_or, unsigned_abs}
 use Rattle.units.specs.declared.axis.Axis.{Axis}
 use Rattle.units.specs.declared.axis.Axis.TheVariants.{X, Y, Z}
 use Rattle.units.specs.declared.fault.Fault.{Fault}

@@ -5,7 +5,6 @@ use Rattle.units.specs.Quantities.{zero_length}
 use Rattle.reader.specs.declared.functions.Settable.{Settable}
 use Rattle.reader.specs.declared.functions.Settable.TheVariants.{G500, G54, G55, G56, G57, G58, G59}
 use Rattle.workpiece.specs.declared.settable.SettableFrame.{SettableFrame}
-use Rattle.workpiece.specs.declared.settable.SettableFrames.{SettableFrames}
 
 -- 0 stands for G500, which has no record
 abbrev pub frame_number : Settable → ℕ
@@ -17,6 +16,11 @@ frame_number G57 = 4
 frame_number G58 = 5
 frame_number G59 = 6
 
+-- where the record of the frame with that number stands
+abbrev pub record_place : ℕ → Option ℕ
+record_place zero = None
+record_place (suc n) = Some n
+
 abbrev pub numbered_frame : ℤ → Option Settable
 numbered_frame (negsuc n) = None
 numbered_frame (pos n) =
@@ -26,9 +30,6 @@ numbered_frame (pos n) =
     (cond (n == 4) (Some G57)
     (cond (n == 5) (Some G58)
     (cond (n == 6) (Some G59) None)))))
-
-abbrev pub records_of : SettableFrames → List SettableFrame
-records_of t = t.records
 
 abbrev pub no_offset : List Length
 no_offset = zero_length ∷ zero_length ∷ zero_length ∷ []

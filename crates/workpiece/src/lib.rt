@@ -1,7 +1,7 @@
 //! What a block is reckoned with: modal functions, settable frames, what is in force, workpiece values, and the plan of a move.
 #![tactic(auto)]
 
-pub mod axes;
+mod axes;
 pub mod force;
 pub mod modes;
 pub mod places;

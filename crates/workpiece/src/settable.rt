@@ -1,4 +1,5 @@
 // The settable frames G54 to G59.
+use std::marker::Model;
 use units::quantity::Length;
 
 pub mod table;
@@ -13,4 +14,15 @@ pub struct SettableFrame {
 #[derive(Clone, Copy)]
 pub struct SettableFrames {
     records: [SettableFrame; 6],
+}
+
+impl Model for SettableFrames {
+    ghost use Rattle.std.specs.Prelude.{List};
+    ghost use Rattle.workpiece.specs.declared.settable.SettableFrame.{SettableFrame};
+
+    ghost Value = { List SettableFrame };
+
+    ghost view = { λ t. t.records };
+
+    ghost inverse = { λ records. record { records = records } };
 }

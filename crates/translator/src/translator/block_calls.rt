@@ -1,10 +1,10 @@
 // Working a block.
 ghost use Rattle.std.specs.Prelude.{◌≡◌, Some, Ok};
 ghost use Rattle.translator.specs.State.{state_of, point_of, still};
-ghost use Rattle.translator.specs.Work.{on_change, handed_over, ordinary_at, obeyed, running, worked, replied, left_by};
+ghost use Rattle.translator.specs.Work.{on_change, handed_over, ordinary_at, limited, obeyed, running, worked, replied, left_by};
 ghost use Rattle.workpiece.specs.Changes.{changed};
 ghost use Rattle.workpiece.specs.Setup.{setup_of};
-ghost use Rattle.blocks.specs.declared.types.Block.TheVariants.{Frame, Limit, Ordinary as ordinary};
+ghost use Rattle.blocks.specs.declared.types.Block.TheVariants.{Frame, Ordinary as ordinary};
 
 use super::Translator;
 use crate::reply::Reply;
@@ -22,11 +22,8 @@ use workpiece::setup::Setup;
 fn point_of(image: Image) -> Point
     ensures { result ≡ point_of image }
 {
-    Point {
-        x: image.at[0],
-        y: image.at[1],
-        z: image.at[2],
-    }
+    let [x, y, z] = image.at;
+    Point { x, y, z }
 }
 
 // The reply where no axis moved.
@@ -34,18 +31,8 @@ pub fn still_at(setup: &Setup) -> Reply
     ensures { result ≡ still (setup_of setup.now) }
 {
     Reply {
-        moved: [false, false, false],
+        moved: [false; 3],
         image: setup.image,
-    }
-}
-
-fn reply_of(plan: Plan) -> Reply
-    ensures { result ≡ record { moved = plan.moved; image = plan.image } }
-{
-    let moved = plan.moved;
-    Reply {
-        moved,
-        image: plan.image,
     }
 }
 
@@ -54,24 +41,18 @@ impl<E: MachineEnd> Translator<E> {
         ensures told { result ≡ replied (obeyed (state_of E.meaning self.old) (Frame change place)) }
         ensures left { state_of E.meaning self.new ≡ left_by (state_of E.meaning self.old) (obeyed (state_of E.meaning self.old) (Frame change place)) }
     {
-        match self.setup.change_frame(change) {
-            Ok(()) => Ok(still_at(&self.setup)),
-            Err(fault) => Err(fault.at(place)),
-        }
+        self.setup
+            .change_frame(change)
+            .map_err(|fault| fault.at(place))?;
+        Ok(still_at(&self.setup))
     }
 
-    fn write_limits(
-        &mut self,
-        side: Side,
-        values: [Option<Length>; 3],
-        place: usize,
-    ) -> Result<Reply, Fault>
-        ensures told { result ≡ replied (obeyed (state_of E.meaning self.old) (Limit side values place)) }
-        ensures left { state_of E.meaning self.new ≡ left_by (state_of E.meaning self.old) (obeyed (state_of E.meaning self.old) (Limit side values place)) }
+    fn write_limits(&mut self, side: Side, values: [Option<Length>; 3]) -> Reply
+        ensures told { result ≡ (limited (state_of E.meaning self.old) side values).reply }
+        ensures left { state_of E.meaning self.new ≡ (limited (state_of E.meaning self.old) side values).left }
     {
-        let _ = place;
         self.pile.write_limits(side, values);
-        Ok(still_at(&self.setup))
+        still_at(&self.setup)
     }
 
     // The three targets go to the pile; only what it takes is stored.
@@ -79,23 +60,19 @@ impl<E: MachineEnd> Translator<E> {
         ensures told { result ≡ replied (handed_over (state_of E.meaning self.old) block.now place plan) }
         ensures left { state_of E.meaning self.new ≡ left_by (state_of E.meaning self.old) (handed_over (state_of E.meaning self.old) block.now place plan) }
     {
-        match self.pile.take_move(point_of(plan.image)) {
-            Ok(()) => {
-                self.setup.settle(block, plan);
-                Ok(reply_of(plan))
-            }
-            Err(fault) => Err(fault.at(place)),
-        }
+        self.pile
+            .take_move(point_of(plan.image))
+            .map_err(|fault| fault.at(place))?;
+        self.setup.settle(block, plan);
+        Ok(Reply::from(plan))
     }
 
     fn move_axes(&mut self, block: &Ordinary, place: usize) -> Result<Reply, Fault>
         ensures told { result ≡ replied (ordinary_at (state_of E.meaning self.old) block.now (Some place)) }
         ensures left { state_of E.meaning self.new ≡ left_by (state_of E.meaning self.old) (ordinary_at (state_of E.meaning self.old) block.now (Some place)) }
     {
-        match self.setup.plan(block) {
-            Ok(plan) => self.hand_over(block, plan, place),
-            Err(fault) => Err(fault.at(place)),
-        }
+        let plan = self.setup.plan(block).map_err(|fault| fault.at(place))?;
+        self.hand_over(block, plan, place)
     }
 
     fn ordinary(&mut self, block: &Ordinary) -> Result<Reply, Fault>
@@ -117,11 +94,7 @@ impl<E: MachineEnd> Translator<E> {
     {
         match block {
             Block::Frame { change, place } => self.change_frame(*change, *place),
-            Block::Limit {
-                side,
-                values,
-                place,
-            } => self.write_limits(*side, *values, *place),
+            Block::Limit { side, values, .. } => Ok(self.write_limits(*side, *values)),
             Block::Ordinary(ordinary) => self.ordinary(ordinary),
         }
     }
@@ -141,9 +114,7 @@ impl<E: MachineEnd> Translator<E> {
         ensures told { result ≡ replied (worked (state_of E.meaning self.old) bytes.now) }
         ensures left { state_of E.meaning self.new ≡ left_by (state_of E.meaning self.old) (worked (state_of E.meaning self.old) bytes.now) }
     {
-        match typed_block(bytes, is_inch(self.setup.modes.unit)) {
-            Ok(block) => self.run(&block),
-            Err(fault) => Err(fault),
-        }
+        let block = typed_block(bytes, is_inch(self.setup.modes.unit))?;
+        self.run(&block)
     }
 }

@@ -74,10 +74,8 @@ impl<E: MachineEnd> Translator<E> {
         ensures told { result ≡ replied (entered (state_of E.meaning self.old) frame offset) }
         ensures left { state_of E.meaning self.new ≡ left_by (state_of E.meaning self.old) (entered (state_of E.meaning self.old) frame offset) }
     {
-        match self.setup.enter(frame, offset) {
-            Ok(()) => Ok(still_at(&self.setup)),
-            Err(fault) => Err(fault),
-        }
+        self.setup.enter(frame, offset)?;
+        Ok(still_at(&self.setup))
     }
 
     /// Empties the chain, puts the starting functions back, opens all axes, and lets a programme begin anew.

@@ -1,23 +1,23 @@
 // Reading and entering settable frames.
 ghost use Rattle.std.specs.Prelude.{◌≡◌, List, [], ◌∷◌};
-ghost use Rattle.workpiece.specs.Settable.{frame_number, numbered_frame, records_of, no_records, no_offset, offset_of, entered};
+ghost use Rattle.workpiece.specs.Settable.{frame_number, record_place, numbered_frame, no_records, offset_of, entered};
 
 use crate::settable::{SettableFrame, SettableFrames};
 use reader::functions::Settable;
 use units::quantity::Length;
 
-/// G54 is 1 and G59 is 6; G500 is 0 and has no record.
-pub fn frame_number(settable: Settable) -> usize
-    ensures { result ≡ frame_number settable }
+/// Where the record of a frame stands; G500 has none.
+pub fn record_place(settable: Settable) -> Option<usize>
+    ensures { result ≡ record_place (frame_number settable) }
 {
     match settable {
-        Settable::G500 => 0,
-        Settable::G54 => 1,
-        Settable::G55 => 2,
-        Settable::G56 => 3,
-        Settable::G57 => 4,
-        Settable::G58 => 5,
-        Settable::G59 => 6,
+        Settable::G500 => None,
+        Settable::G54 => Some(0),
+        Settable::G55 => Some(1),
+        Settable::G56 => Some(2),
+        Settable::G57 => Some(3),
+        Settable::G58 => Some(4),
+        Settable::G59 => Some(5),
     }
 }
 
@@ -47,37 +47,32 @@ impl SettableFrame {
 impl SettableFrames {
     /// Six records of no offset.
     pub fn new() -> SettableFrames
-        ensures { records_of result ≡ no_records }
+        ensures { result ≡ no_records }
     {
-        let zero = Length::zero();
         SettableFrames {
             records: [SettableFrame {
-                offset: [zero, zero, zero],
+                offset: [Length::zero(); 3],
             }; 6],
         }
     }
 
     /// The offset of the selected frame; none, that is 0 on each axis, under G500.
     pub fn offset(&self, settable: Settable) -> [Length; 3]
-        ensures { result ≡ offset_of (records_of self.now) (frame_number settable) }
+        ensures { result ≡ offset_of self.now (frame_number settable) }
     {
-        let n = frame_number(settable);
-        if n == 0 {
-            let zero = Length::zero();
-            return [zero, zero, zero];
+        match record_place(settable) {
+            Some(n) => self.records[n].offset,
+            None => [Length::zero(); 3],
         }
-        self.records[n - 1].offset
     }
 
     /// Enters the offset of a frame; G500 has none to enter.
     pub fn enter(&mut self, settable: Settable, offset: [Length; 3])
-        ensures { records_of self.new ≡ entered (records_of self.old) (frame_number settable) offset }
+        ensures { self.new ≡ entered self.old (frame_number settable) offset }
     {
-        let n = frame_number(settable);
-        if n == 0 {
-            return;
+        if let Some(n) = record_place(settable) {
+            let record = &mut self.records[n];
+            record.enter(offset);
         }
-        let record = &mut self.records[n - 1];
-        record.enter(offset);
     }
 }

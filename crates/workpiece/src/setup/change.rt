@@ -61,15 +61,10 @@ impl Setup {
     {
         let plane = self.modes.plane;
         match change {
-            FrameChange::Empty => {
-                self.empty_chain();
-                Ok(())
-            }
-            FrameChange::Replace(step) => {
-                self.replace_chain(step_in(plane, step));
-                Ok(())
-            }
-            FrameChange::Append(step) => self.lengthen_chain(step_in(plane, step)),
+            FrameChange::Empty => self.empty_chain(),
+            FrameChange::Replace(step) => self.replace_chain(step_in(plane, step)),
+            FrameChange::Append(step) => self.lengthen_chain(step_in(plane, step))?,
         }
+        Ok(())
     }
 }

@@ -58,9 +58,7 @@ impl Setup {
     pub fn settle(&mut self, block: &Ordinary, plan: Plan)
         ensures { setup_of self.new ≡ moved_by (setup_of self.old) block.now plan }
     {
-        self.modes = self.modes.selected(block.selections);
-        self.force = self.force.selected(block.selections.settable);
-        self.ended = block.ends || self.ended;
+        self.select(block);
         let Plan { values, image, .. } = plan;
         self.values = values;
         self.image = image;

@@ -1,8 +1,13 @@
-use Rattle.std.proofs.Common.{ap, ◌∙◌, w64, SFits, rules}
+use Rattle.std.proofs.Common.{◌≡◌, [], ◌∷◌, Some, ap, ◌∙◌, w64, SFits, rules}
 use Rattle.std.proofs.lemmas.Int.{to_z-of_z}
+use Rattle.units.specs.declared.axis.Point.{Point}
+use Rattle.units.specs.declared.quantity.Length.{Length}
 use Rattle.units.specs.Quantities.{length_of}
-use Rattle.workpiece.proofs.Records.{three_made}
+use Rattle.workpiece.specs.Entries.{three_of, lengths_of}
 use Rattle.workpiece.proofs.setup.entry.lengths.Goals as goal
+
+three_made : (p : Point) (x y z : Length) → Some x ≡ length_of p.x → Some y ≡ length_of p.y → Some z ≡ length_of p.z → Some (x ∷ y ∷ z ∷ []) ≡ lengths_of p
+three_made p x y z ex ey ez = λ i. three_of (ex i) (ey i) (ez i)
 
 pub returns : goal.returns
 returns c =
