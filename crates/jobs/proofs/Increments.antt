@@ -1,6 +1,8 @@
 -- Increments as they are written.
-use Rattle.std.proofs.Common.{◌≡◌, ℕ, ◌<◌, Bool, true, false, ◌&&◌, leb, ℤ, pos, Ok, Err, Result, sym, ap, ◌∙◌, subst, ⊎_elim, arith}
-use Rattle.std.specs.Result.{OkIff}
+use Rattle.std.proofs.Common.{◌≡◌, ℕ, ◌<◌, Bool, true, false, ◌&&◌, leb, ℤ, pos, negsuc, unsigned_abs, Ok, Err, Result, sym, refl, ap, ◌∙◌, subst, ⊎_elim, arith}
+use Rattle.std.specs.Result.{OkIff, MatchResult}
+use Rattle.std.specs.Int.{FitsUnsignedBits}
+use Rattle.units.specs.declared.fault.Fault.TheVariants.{Argument}
 use Rattle.std.proofs.lemmas.Bool.{and_right, lt-leb, cases_lt}
 use Rattle.units.specs.declared.axis.Point.{Point}
 use Rattle.units.specs.declared.fault.Fault.{Fault}
@@ -25,8 +27,9 @@ too_large : (n : ℕ) → (n < 4294967296 → ⊥) → increment_fits n ≡ fals
 unfolding increment_fits
 too_large n f = and_right (leb 1 n) (leb n 100000) (lt-leb n 100000 (⊎_elim (λ l. absurd (f (omega arith))) (λ h. omega arith) (cases_lt n 100001)))
 
-pub refused : {E : Type 0} (n : ℕ) (r : Result ℕ E) (e : E) → r ≡ Err e → OkIff r (n < 4294967296) n → increment_fits n ≡ false
-refused n r e is told = too_large n (subst (λ (x : Result ℕ _). OkIff x (n < 4294967296) n) is told)
-
-pub fitting : (z : ℤ) (n : ℕ) (r : Result ℕ Fault) → z ≡ pos n → Fitting (pos n) r → Fitting z r
-fitting z n r e f = subst (λ (i : ℤ). Fitting i r) (sym e) f
+-- by what the conversion to 32 bits gives
+pub fitting : {E : Type 0} (z : ℤ) (u : Result ℕ E) (r : Result ℕ Fault) → OkIff u (FitsUnsignedBits 32 z) (unsigned_abs z) → MatchResult u (λ x. r ≡ Ok x) (λ e. r ≡ Err Argument) → Fitting z r
+fitting (pos n) (Ok x) r f m = subst (Fitting (pos n)) (sym m) (ap pos (sym f.1))
+fitting (negsuc n) (Ok x) r f m = absurd f.0
+fitting (pos n) (Err e) r f m = subst (Fitting (pos n)) (sym m) (too_large n f, refl)
+fitting (negsuc n) (Err e) r f m = subst (Fitting (negsuc n)) (sym m) (refl, refl)

@@ -8,8 +8,7 @@ use Rattle.machine.specs.Motors.{Increments}
 use Rattle.script.specs.declared.call.Limits.{Limits}
 use Rattle.script.specs.declared.call.Call.{Call}
 use Rattle.script.specs.declared.call.Call.TheVariants.{ScaleEnd, CountEnd, Area, Move, Ask, New, Block, Entry, Reset, Read, Rolls, Programme, Check}
-use Rattle.jobs.specs.declared.convert.EndCall.{EndCall}
-use Rattle.jobs.specs.declared.convert.EndCall.TheVariants.{Scale, Count, Declined, Other}
+use Rattle.jobs.specs.declared.convert.MadeEnd.{MadeEnd}
 
 -- limits that a box may have
 abbrev pub limits_fit : Limits → Bool
@@ -44,7 +43,7 @@ makes_end (Block bytes) = false
 makes_end (Entry f o) = false
 makes_end Reset = false
 makes_end Read = false
-makes_end (Rolls m d) = false
+makes_end (Rolls c) = false
 makes_end Programme = false
 makes_end Check = false
 
@@ -53,8 +52,7 @@ line_makes_end None = false
 line_makes_end (Some call) = makes_end call
 
 -- an end where the test holds; else none, and 17 where the line asks for one
-abbrev pub EndMade : Bool → EndCall → Type 0
-EndMade test (Scale e) = test ≡ true
-EndMade test (Count e) = test ≡ true
-EndMade test (Declined f) = (test ≡ false) × (f ≡ Argument)
-EndMade test Other = test ≡ false
+abbrev pub EndMade : Bool → Option (Result MadeEnd Fault) → Type 0
+EndMade test (Some (Ok e)) = test ≡ true
+EndMade test (Some (Err f)) = (test ≡ false) × (f ≡ Argument)
+EndMade test None = test ≡ false

@@ -1,7 +1,6 @@
 // What is written of each answer.
 use chains::step::Step;
 use frames::image::Image;
-use programmes::records::{DeclineRecord, MoveRecord};
 use questions::question::Told;
 use std::fmt;
 use translator::reply::{Reading, Reply};
@@ -39,27 +38,18 @@ impl fmt::Display for Declined {
     }
 }
 
-/// A move record of a programme.
-#[derive(Clone, Copy)]
-pub struct MovedAt(pub MoveRecord);
-
-impl fmt::Display for MovedAt {
-    fn fmt<W: fmt::Write>(&self, f: &mut fmt::Formatter<W>) -> fmt::Result {
-        let start = self.0.start;
-        let targets = Targets(self.0.image);
-        write!(f, "byte {start} {targets}")
-    }
+/// What is said of the block that begins at a byte of its text.
+#[derive(Clone, Copy, Drop)]
+pub struct AtByte<D> {
+    pub start: usize,
+    pub said: D,
 }
 
-/// A decline record of a programme.
-#[derive(Clone, Copy)]
-pub struct DeclinedAt(pub DeclineRecord);
-
-impl fmt::Display for DeclinedAt {
+impl<D: fmt::Display> fmt::Display for AtByte<D> {
     fn fmt<W: fmt::Write>(&self, f: &mut fmt::Formatter<W>) -> fmt::Result {
-        let start = self.0.start;
-        let declined = Declined(self.0.fault);
-        write!(f, "byte {start} {declined}")
+        let start = self.start;
+        let said = &self.said;
+        write!(f, "byte {start} {said}")
     }
 }
 
@@ -94,7 +84,7 @@ impl fmt::Display for Tells {
 
 /// Three targets with their spreads.
 #[derive(Clone, Copy)]
-struct Targets(Image);
+pub struct Targets(pub Image);
 
 impl fmt::Display for Targets {
     fn fmt<W: fmt::Write>(&self, f: &mut fmt::Formatter<W>) -> fmt::Result {

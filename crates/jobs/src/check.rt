@@ -2,7 +2,7 @@
 ghost use Rattle.std.specs.Prelude.{◌≡◌, ℕ, ◌+◌, ◌^◌, ◌<◌};
 ghost use Rattle.jobs.specs.Checks.{counted, inch_after};
 
-use crate::answers::Declined;
+use crate::answers::{AtByte, Declined};
 use crate::report::Report;
 use crate::says::Says;
 use blocks::block::typed_block;
@@ -15,31 +15,24 @@ use units::fault::Fault;
 /// How many bytes a programme text may have.
 const TEXT_BYTES: usize = 65_536;
 
-/// What is said of the block that begins at a byte of its text.
+/// What is said of a block.
 #[derive(Clone, Copy)]
-struct Judged {
-    start: usize,
-    block: Result<Block, Fault>,
-}
+struct Judged(Result<Block, Fault>);
 
 impl fmt::Display for Judged {
     fn fmt<W: fmt::Write>(&self, f: &mut fmt::Formatter<W>) -> fmt::Result {
-        let start = self.start;
-        match self.block {
+        match self.0 {
             Ok(block) => {
                 let says = Says(block);
-                write!(f, "byte {start} right{says}")
+                write!(f, "right{says}")
             }
-            Err(fault) => {
-                let declined = Declined(fault);
-                write!(f, "byte {start} {declined}")
-            }
+            Err(fault) => f.write(Declined(fault)),
         }
     }
 }
 
 /// How many blocks are right and how many declined.
-#[derive(Clone, Copy)]
+#[derive(Clone, Copy, Default)]
 struct Tally {
     right: usize,
     declined: usize,
@@ -61,11 +54,11 @@ impl Tally {
         match block {
             Ok(_) => Tally {
                 right: self.right + 1,
-                declined: self.declined,
+                ..self
             },
             Err(_) => Tally {
-                right: self.right,
                 declined: self.declined + 1,
+                ..self
             },
         }
     }
@@ -76,27 +69,23 @@ fn inch_after(block: Result<Block, Fault>, inch: bool) -> bool
     ensures { result ≡ inch_after block inch }
 {
     match block {
-        Ok(Block::Ordinary(ordinary)) => match ordinary.selections.unit {
-            Some(LengthUnit::Inch) => true,
-            Some(LengthUnit::Millimetre) => false,
-            None => inch,
-        },
+        Ok(Block::Ordinary(ordinary)) => ordinary
+            .selections
+            .unit
+            .map_or(inch, |unit| unit == LengthUnit::Inch),
         _ => inch,
     }
 }
 
 fn check_blocks(text: &[u8], report: &mut Report) -> Result<(), AllocError> {
     let mut inch = false;
-    let mut tally = Tally {
-        right: 0,
-        declined: 0,
-    };
+    let mut tally = Tally::default();
     let mut reader = LineReader::new(text);
     while let Some(line) = reader.next_line() {
         let block = typed_block(line.bytes, inch);
-        report.say(Judged {
+        report.say(AtByte {
             start: line.start,
-            block,
+            said: Judged(block),
         })?;
         tally = tally.with(block);
         inch = inch_after(block, inch);

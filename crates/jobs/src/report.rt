@@ -1,8 +1,7 @@
 // The answers of a job, gathered.
-use crate::answers::{Declined, NotUnderstood, Tells};
-use crate::convert::{EndCall, end_call};
+use crate::answers::{Declined, NotUnderstood};
+use crate::convert::end_call;
 use crate::script_lines::ScriptLine;
-use questions::question::Told;
 use script::call::Call;
 use std::alloc::{AllocError, Global};
 use std::fmt;
@@ -23,31 +22,32 @@ impl Report {
 
     /// Writes a line.
     pub fn say<D: fmt::Display + Drop>(&mut self, answer: D) -> Result<(), AllocError> {
-        match self.text.writeln(answer) {
-            Ok(()) => Ok(()),
-            Err(_) => Err(AllocError),
+        self.text.writeln(answer)
+    }
+
+    /// Writes what a call is answered, or why it is declined.
+    pub(crate) fn answer<D: fmt::Display + Drop>(
+        &mut self,
+        answer: Result<D, Fault>,
+    ) -> Result<(), AllocError> {
+        match answer {
+            Ok(answer) => self.say(answer),
+            Err(fault) => self.say(Declined(fault)),
+        }
+    }
+
+    /// Answers a line that does nothing where it stands: an end that is not made, or a call at the wrong time.
+    pub(crate) fn say_aside(&mut self, line: ScriptLine) -> Result<(), AllocError> {
+        if let Some(Call::Rolls(_)) = line.call {
+            return Ok(());
+        }
+        match end_call(line.call).and_then(|end| end.err()) {
+            Some(fault) => self.say(Declined(fault)),
+            None => self.say(NotUnderstood { line: line.number }),
         }
     }
 
     pub fn into_text(self) -> String {
         self.text
-    }
-}
-
-pub fn say_told(told: Result<Told, Fault>, report: &mut Report) -> Result<(), AllocError> {
-    match told {
-        Ok(told) => report.say(Tells(told)),
-        Err(fault) => report.say(Declined(fault)),
-    }
-}
-
-/// Answers a line that does nothing where it stands: an end that is not made, or a call at the wrong time.
-pub fn say_aside(line: ScriptLine, report: &mut Report) -> Result<(), AllocError> {
-    if let Some(Call::Rolls { .. }) = line.call {
-        return Ok(());
-    }
-    match end_call(line.call) {
-        EndCall::Declined(fault) => report.say(Declined(fault)),
-        _ => report.say(NotUnderstood { line: line.number }),
     }
 }

@@ -1,15 +1,8 @@
 // The lines of a script that are calls, right or wrong.
 use lines::reader::LineReader;
-use script::call::Call;
+use script::call::{Call, Capacities};
 use script::line::{call, passed_over};
 use std::alloc::{AllocError, Global};
-
-/// How many records the rolls of a programme have room for.
-#[derive(Clone, Copy)]
-pub struct Capacities {
-    pub moves: u64,
-    pub declines: u64,
-}
 
 /// A line with its number, counted from 1 over all lines, and its call; none where it is not understood.
 /// `rolls` are the capacities in force, and `behind` is all that follows the line.
@@ -28,38 +21,30 @@ pub struct Script<'a> {
     pub checked: Option<&'a [u8]>,
 }
 
-fn rolls_after(call: Option<Call>, rolls: Capacities) -> Capacities {
-    match call {
-        Some(Call::Rolls { moves, declines }) => Capacities { moves, declines },
-        _ => rolls,
-    }
-}
-
 pub fn read_script<'a>(heap: Global, input: &'a [u8]) -> Result<Script<'a>, AllocError> {
     let mut lines = Vec::new(heap);
-    let mut rolls = Capacities {
-        moves: 70_000,
-        declines: 70_000,
-    };
+    let mut rolls = Capacities::default();
     let mut reader = LineReader::new(input);
     while let Some(line) = reader.next_line() {
-        if !passed_over(line.bytes) {
-            let call = call(line.bytes);
-            let behind = reader.rest();
-            if let Some(Call::Check) = call {
-                return Ok(Script {
-                    lines,
-                    checked: Some(behind),
-                });
-            }
-            rolls = rolls_after(call, rolls);
-            lines.push(ScriptLine {
-                number: line.number,
-                call,
-                rolls,
-                behind,
-            })?;
+        if passed_over(line.bytes) {
+            continue;
         }
+        let call = call(line.bytes);
+        let behind = reader.rest();
+        match call {
+            Some(Call::Check) => return Ok(Script {
+                lines,
+                checked: Some(behind),
+            }),
+            Some(Call::Rolls(capacities)) => rolls = capacities,
+            _ => {}
+        }
+        lines.push(ScriptLine {
+            number: line.number,
+            call,
+            rolls,
+            behind,
+        })?;
     }
     Ok(Script {
         lines,

@@ -1,4 +1,6 @@
 // The calls that a line can make.
+ghost use Rattle.std.specs.Prelude.{◌≡◌};
+
 use questions::question::Question;
 use units::axis::Point;
 
@@ -7,6 +9,25 @@ use units::axis::Point;
 pub struct Limits {
     pub lower: Point,
     pub upper: Point,
+}
+
+/// How many records the rolls of a programme have room for.
+#[derive(Clone, Copy)]
+pub struct Capacities {
+    pub moves: u64,
+    pub declines: u64,
+}
+
+/// What a script that names none has.
+impl Default for Capacities {
+    ghost is_default = { λ c. (c.moves ≡ 70000) × (c.declines ≡ 70000) };
+
+    fn default() -> Capacities {
+        Capacities {
+            moves: 70_000,
+            declines: 70_000,
+        }
+    }
 }
 
 #[derive(Clone, Copy)]
@@ -21,7 +42,7 @@ pub enum Call<'a> {
     Entry { frame: i64, offset: Point },
     Reset,
     Read,
-    Rolls { moves: u64, declines: u64 },
+    Rolls(Capacities),
     Programme,
     Check,
 }

@@ -1,5 +1,5 @@
 // From a line to its call.
-use crate::call::{Call, Limits};
+use crate::call::{Call, Capacities, Limits};
 use crate::number::number;
 use crate::words::Words;
 use questions::question::Question;
@@ -92,7 +92,7 @@ impl<'a> Words<'a> {
     fn take_rolls(&mut self) -> Option<Call<'a>> {
         let moves = self.take_count()?;
         let declines = self.take_count()?;
-        Some(Call::Rolls { moves, declines })
+        Some(Call::Rolls(Capacities { moves, declines }))
     }
 
     // The call of a line whose words are all used by it.
