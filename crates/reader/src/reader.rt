@@ -23,11 +23,7 @@ fn run_len(s: &[u8]) -> usize
     ensures all { (k : ℕ) → k < result → Stop (slice_index s.now k) → ⊥ }
     ensures stops { result < length s.now → Stop (slice_index s.now result) }
 {
-    let mut n = 0;
-    while n < s.len() && s[n] != b' ' && s[n] != b';' {
-        n += 1;
-    }
-    n
+    s.iter().take_while(|&&b| b != b' ' && b != b';').count()
 }
 
 // How many bytes at the front are spaces.
@@ -36,11 +32,7 @@ fn gap_len(s: &[u8]) -> usize
     ensures all { (k : ℕ) → k < result → slice_index s.now k ≡ 32 }
     ensures stops { result < length s.now → slice_index s.now result ≢ 32 }
 {
-    let mut n = 0;
-    while n < s.len() && s[n] == b' ' {
-        n += 1;
-    }
-    n
+    s.iter().take_while(|&&b| b == b' ').count()
 }
 
 impl<'a> BlockReader<'a> {
