@@ -1,7 +1,7 @@
 // The reader of a block: it stands at a place of the caller's bytes.
 ghost use Rattle.std.specs.Prelude.{◌≡◌, ℕ, ◌<◌, ◌≤◌, length, ◌≢◌, slice_index};
 ghost use Rattle.reader.specs.Runs.{Stop, Fresh, Apart};
-ghost use Rattle.reader.specs.Pieces.{Reads, WordRead};
+ghost use Rattle.reader.specs.Pieces.{Reads};
 
 use crate::types::{Piece, Word};
 use crate::word::read_word;
@@ -45,7 +45,7 @@ impl<'a> BlockReader<'a> {
     }
 
     // The next run without space or `;`, or the comment.
-    fn next(&mut self) -> Option<Piece<'a>>
+    fn piece(&mut self) -> Option<Piece<'a>>
         ensures same { self.new.bytes.now ≡ self.old.bytes.now }
         ensures reads { Reads self.old.bytes.now self.old.place self.new.place result }
     {
@@ -71,16 +71,25 @@ impl<'a> BlockReader<'a> {
             }
         }
     }
+}
+
+/// The words and the comment, each as it is read, or why a word is declined.
+impl<'a> Iterator for BlockReader<'a> {
+    ghost use Rattle.std.specs.Prelude.{◌≡◌, ◌-◌, length};
+    ghost use Rattle.std.specs.Iterator.{at_most};
+    ghost use Rattle.reader.specs.Pieces.{WordRead};
+
+    type Item = Result<Word<'a>, Fault>;
+
+    ghost next_gives = { λ r read after. (after.bytes.now ≡ r.bytes.now) × WordRead r.bytes.now r.place after.place read };
+
+    ghost remaining = { λ r. at_most (length r.bytes.now - r.place) };
 
     /// The next word or the comment, or why that word is declined; none at the end.
-    pub fn next_word(&mut self) -> Option<Result<Word<'a>, Fault>>
-        ensures same { self.new.bytes.now ≡ self.old.bytes.now }
-        ensures reads { WordRead self.old.bytes.now self.old.place self.new.place result }
-    {
-        match self.next() {
-            Some(Piece::Run { text, place }) => Some(read_word(text, place)),
-            Some(Piece::Comment { text, place }) => Some(Ok(Word::Comment { text, place })),
-            None => None,
+    fn next(&mut self) -> Option<Result<Word<'a>, Fault>> {
+        match self.piece()? {
+            Piece::Run { text, place } => Some(read_word(text, place)),
+            Piece::Comment { text, place } => Some(Ok(Word::Comment { text, place })),
         }
     }
 }
