@@ -19,8 +19,7 @@ fn gather(bytes: &[u8], g: &mut Gathered) -> Result<(), Fault>
     requires { (g.old.slots ≡ empty_slots) × (g.old.order ≡ empty_order) }
     ensures { MatchResult result (λ _. Gathers bytes.now g.new) (Stops bytes.now) }
 {
-    let mut reader = BlockReader::new(bytes);
-    while let Some(read) = reader.next_word() {
+    for read in BlockReader::new(bytes) {
         // No `?`: it would copy each word once more.
         match read {
             Ok(word) => {

@@ -1,7 +1,7 @@
 // The reader of a block: it stands at a place of the caller's bytes.
 ghost use Rattle.std.specs.Prelude.{◌≡◌, ℕ, ◌<◌, ◌≤◌, length, ◌≢◌, slice_index};
 ghost use Rattle.reader.specs.Runs.{Stop, Fresh, Apart};
-ghost use Rattle.reader.specs.Pieces.{Reads, WordRead};
+ghost use Rattle.reader.specs.Pieces.{Reads};
 
 use crate::types::{Piece, Word};
 use crate::word::read_word;
@@ -23,11 +23,7 @@ fn run_len(s: &[u8]) -> usize
     ensures all { (k : ℕ) → k < result → Stop (slice_index s.now k) → ⊥ }
     ensures stops { result < length s.now → Stop (slice_index s.now result) }
 {
-    let mut n = 0;
-    while n < s.len() && s[n] != b' ' && s[n] != b';' {
-        n += 1;
-    }
-    n
+    s.iter().take_while(|&&b| b != b' ' && b != b';').count()
 }
 
 // How many bytes at the front are spaces.
@@ -36,11 +32,7 @@ fn gap_len(s: &[u8]) -> usize
     ensures all { (k : ℕ) → k < result → slice_index s.now k ≡ 32 }
     ensures stops { result < length s.now → slice_index s.now result ≢ 32 }
 {
-    let mut n = 0;
-    while n < s.len() && s[n] == b' ' {
-        n += 1;
-    }
-    n
+    s.iter().take_while(|&&b| b == b' ').count()
 }
 
 impl<'a> BlockReader<'a> {
@@ -53,7 +45,7 @@ impl<'a> BlockReader<'a> {
     }
 
     // The next run without space or `;`, or the comment.
-    fn next(&mut self) -> Option<Piece<'a>>
+    fn piece(&mut self) -> Option<Piece<'a>>
         ensures same { self.new.bytes.now ≡ self.old.bytes.now }
         ensures reads { Reads self.old.bytes.now self.old.place self.new.place result }
     {
@@ -79,16 +71,25 @@ impl<'a> BlockReader<'a> {
             }
         }
     }
+}
+
+/// The words and the comment, each as it is read, or why a word is declined.
+impl<'a> Iterator for BlockReader<'a> {
+    ghost use Rattle.std.specs.Prelude.{◌≡◌, ◌-◌, length};
+    ghost use Rattle.std.specs.Iterator.{at_most};
+    ghost use Rattle.reader.specs.Pieces.{WordRead};
+
+    type Item = Result<Word<'a>, Fault>;
+
+    ghost next_gives = { λ r read after. (after.bytes.now ≡ r.bytes.now) × WordRead r.bytes.now r.place after.place read };
+
+    ghost remaining = { λ r. at_most (length r.bytes.now - r.place) };
 
     /// The next word or the comment, or why that word is declined; none at the end.
-    pub fn next_word(&mut self) -> Option<Result<Word<'a>, Fault>>
-        ensures same { self.new.bytes.now ≡ self.old.bytes.now }
-        ensures reads { WordRead self.old.bytes.now self.old.place self.new.place result }
-    {
-        match self.next() {
-            Some(Piece::Run { text, place }) => Some(read_word(text, place)),
-            Some(Piece::Comment { text, place }) => Some(Ok(Word::Comment { text, place })),
-            None => None,
+    fn next(&mut self) -> Option<Result<Word<'a>, Fault>> {
+        match self.piece()? {
+            Piece::Run { text, place } => Some(read_word(text, place)),
+            Piece::Comment { text, place } => Some(Ok(Word::Comment { text, place })),
         }
     }
 }

@@ -1,5 +1,5 @@
 // One word of a block.
-ghost use Rattle.std.specs.Prelude.{◌≡◌, ◌+◌, ◌^◌, ◌<◌, true, [], ◌∷◌, map, length, take, Decides, MatchOption, MatchResult, ◌≢◌};
+ghost use Rattle.std.specs.Prelude.{◌≡◌, ◌+◌, ◌^◌, ◌<◌, ◌≤◌, true, [], ◌∷◌, map, length, take, Decides, MatchOption, MatchResult, ◌≢◌};
 ghost use Rattle.std.specs.Char.{to_ascii_uppercase};
 ghost use Rattle.reader.specs.declared.functions.GFunction.{GFunction as GFunctions};
 ghost use Rattle.reader.specs.declared.types.Address.{Address as Addresses};
@@ -23,11 +23,12 @@ fn allowed(b: u8) -> bool
 fn wrong_byte(s: &[u8]) -> Option<usize>
     ensures { MatchOption result (Clean s.now) (FirstBad s.now) }
 {
-    s.iter().position(|b| !allowed(*b))
+    s.iter().position(|&b| !allowed(b))
 }
 
 fn letters(s: &[u8]) -> usize
-    ensures { result ≡ letters_of s.now }
+    ensures value { result ≡ letters_of s.now }
+    ensures within { result ≤ length s.now }
 {
     s.iter().take_while(|b| b.is_ascii_alphabetic()).count()
 }

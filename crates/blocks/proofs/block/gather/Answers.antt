@@ -4,23 +4,23 @@ use Rattle.blocks.proofs.block.gather.Goals as goal
 
 pub returns-then-taken : goal.returns-then-taken
 returns-then-taken c =
-    let r = given _ _ _ _ c.loop-read.invariant.0 _ c.in-Some.ensures.reads _ _ _ c.in-Ok.is c.item.ensures c.in-Some-item.is in
-    stop_repeated _ _ _ _ _ c.loop-read.invariant.1 _ _ _ r c.if-taken.ensures
+    let r = given _ _ _ _ c.loop-read.invariant.2 _ c.in-Some.ensures.steps.1 _ _ _ c.in-Ok.is c.item.ensures c.in-Some-item.is in
+    stop_repeated _ _ _ _ _ c.loop-read.invariant.3 _ _ _ r c.if-taken.ensures
 
 pub loop-read-preserved-in-Some-item : goal.loop-read-preserved-in-Some-item
 loop-read-preserved-in-Some-item c =
-    let r = given _ _ _ _ c.loop-read.invariant.0 _ c.in-Some.ensures.reads _ _ _ c.in-Ok.is c.item.ensures c.in-Some-item.is in
-    (c.in-Some.ensures.same ∙ c.loop-read.invariant.0, next_word _ _ _ _ _ c.loop-read.invariant.1 _ _ _ r _ _ c.if-taken.ensures c.put.ensures c.note.ensures)
+    let r = given _ _ _ _ c.loop-read.invariant.2 _ c.in-Some.ensures.steps.1 _ _ _ c.in-Ok.is c.item.ensures c.in-Some-item.is in
+    (tt, tt, c.in-Some.ensures.steps.0 ∙ c.loop-read.invariant.2, next_word _ _ _ _ _ c.loop-read.invariant.3 _ _ _ r _ _ c.if-taken.ensures c.put.ensures c.note.ensures)
 
 pub loop-read-preserved : goal.loop-read-preserved
 loop-read-preserved c =
-    let r = given _ _ _ _ c.loop-read.invariant.0 _ c.in-Some.ensures.reads _ _ _ c.in-Ok.is c.item.ensures c.in_default-item.is in
-    (c.in-Some.ensures.same ∙ c.loop-read.invariant.0, past_comment _ _ _ _ _ c.loop-read.invariant.1 _ _ r)
+    let r = given _ _ _ _ c.loop-read.invariant.2 _ c.in-Some.ensures.steps.1 _ _ _ c.in-Ok.is c.item.ensures c.in_default.is in
+    (tt, tt, c.in-Some.ensures.steps.0 ∙ c.loop-read.invariant.2, past_comment _ _ _ _ _ c.loop-read.invariant.3 _ _ r)
 
 pub returns-in-Err : goal.returns-in-Err
-returns-in-Err c = stop_declined _ _ _ _ _ c.loop-read.invariant.1 _ (declined _ _ _ _ c.loop-read.invariant.0 _ c.in-Some.ensures.reads _ c.in-Err.is)
+returns-in-Err c = stop_declined _ _ _ _ _ c.loop-read.invariant.3 _ (declined _ _ _ _ c.loop-read.invariant.2 _ c.in-Some.ensures.steps.1 _ c.in-Err.is)
 
 pub returns : goal.returns
 returns c =
-    let inside = c.loop-read.reader.within in
-    all_read _ _ _ _ _ c.loop-read.invariant.1 (omega (arith, ap length c.loop-read.invariant.0)) (rw c.loop-read.invariant.0 at c.in_default.ensures.reads)
+    let inside = c.loop-read.read-iterator.within in
+    all_read _ _ _ _ _ c.loop-read.invariant.3 (omega (arith, ap length c.loop-read.invariant.2)) (rw c.loop-read.invariant.2 at c.in-None.ensures.steps.1)

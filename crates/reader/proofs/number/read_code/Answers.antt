@@ -1,13 +1,9 @@
-use Rattle.std.proofs.Common.{◌≤◌, length, get_or, take, sym, ap, ◌∙◌, subst, inl, inr, ⊎_elim, arith, true-eqb, false-eqb}
-use Rattle.std.proofs.lemmas.Bool.{cases_lt}
+use Rattle.std.proofs.Common.{◌≤◌, get_or, take, sym, ap, ◌∙◌, subst, inl, inr, arith, true-eqb}
 use Rattle.std.specs.Str.Parse.{digits_value}
-use Rattle.std.proofs.lemmas.List.{take_more, take_all, length-take-le, nil_from_length}
+use Rattle.std.proofs.lemmas.List.{take_more, length-take-le, nil_from_length}
 use Rattle.reader.specs.Shapes.{IsCode, FirstWrong}
-use Rattle.reader.proofs.Shapes.{Code, OnlyDigits, code_begins, code_ninth, code_room, code_worth, code_bound, code_other, code_digit, first_wrong, first_short}
+use Rattle.reader.proofs.Shapes.{Code, OnlyDigits, code_begins, code_room, code_worth, code_bound, code_other, code_digit, first_wrong, first_short}
 use Rattle.reader.proofs.number.read_code.Goals as goal
-
-pub returns-then-i-eq-CODE_DIGITS : goal.returns-then-i-eq-CODE_DIGITS
-returns-then-i-eq-CODE_DIGITS c = first_wrong IsCode c.args.s.now c.loop-i.i c.loop-i-test.true (code_begins _ c.loop-i.invariant.1) (code_ninth _ _ (length-take-le c.loop-i.i c.args.s.now (omega arith) ∙ c.if-i-eq-CODE_DIGITS.true))
 
 pub overflow_mul-value : goal.overflow_mul-value
 overflow_mul-value c = omega (arith, code_room c.loop-i.value c.loop-i.i c.loop-i.invariant.3 (omega arith))
@@ -36,9 +32,3 @@ pub returns-then-is_empty : goal.returns-then-is_empty
 returns-then-is_empty c =
     let none = true-eqb _ _ c.if-is_empty.ensures in
     subst (FirstWrong IsCode c.args.s.now) none (first_short IsCode c.args.s.now (code_begins _ (record { only = subst OnlyDigits (sym (nil_from_length c.args.s.now none)) tt; most = omega arith })) (λ x. omega (arith, x.some)))
-
-pub returns : goal.returns
-returns c =
-    let whole = take_all c.loop-i.i c.args.s.now c.loop-i-test.false in
-    let code = subst Code whole c.loop-i.invariant.1 in
-    (record { only = code.only; some = ⊎_elim (λ l. l) (λ z. absurd (false-eqb _ _ c.if-is_empty.ensures (omega arith))) (cases_lt 0 (length c.args.s.now)); most = code.most }, c.loop-i.invariant.2 ∙ ap (digits_value 10) whole)

@@ -1,7 +1,7 @@
 use Rattle.std.proofs.Common.{ℕ, ◌≤◌, Bool, List, length, get_or, take, sym, refl, subst, inl, inr, arith}
 use Rattle.std.proofs.lemmas.List.{take_more, take_all}
 use Rattle.reader.specs.Shapes.{IsMagnitude}
-use Rattle.reader.proofs.Shapes.{Sofar, carry, digit_plain, digit_after, point_first, begins, done, not_allowed, eleventh, second_point, first_wrong, first_short, ten_digits}
+use Rattle.reader.proofs.Shapes.{Sofar, carry, digit_plain, digit_after, point_first, begins, done, not_allowed, second_point, first_wrong, first_short, ten_digits}
 use Rattle.reader.proofs.number.read_magnitude.Goals as goal
 use Rattle.reader.proofs.number.read_magnitude.Goals.{in-46+else-point, in-48-to-57+else-digits-eq-NUMBER_DIGITS+then-point-2, in-48-to-57+else-digits-eq-NUMBER_DIGITS+else-point-2}
 
@@ -24,9 +24,6 @@ returns-in_default-2 c = first_wrong IsMagnitude c.args.s.now c.loop-i.i c.loop-
 
 pub returns-then-point : goal.returns-then-point
 returns-then-point c = first_wrong IsMagnitude c.args.s.now c.loop-i.i c.loop-i-test.true (begins c.loop-i.invariant) (second_point _ (carry refl refl refl refl (sym c.if-point.true) c.loop-i.invariant) c.in-46.is)
-
-pub returns-then-digits-eq-NUMBER_DIGITS : goal.returns-then-digits-eq-NUMBER_DIGITS
-returns-then-digits-eq-NUMBER_DIGITS c = first_wrong IsMagnitude c.args.s.now c.loop-i.i c.loop-i-test.true (begins c.loop-i.invariant) (eleventh _ c.loop-i.invariant (omega arith) (omega arith) c.if-digits-eq-NUMBER_DIGITS.true)
 
 -- the invariant at the end, over the whole text
 all : (s : List ℕ) (i n ds fs : ℕ) (p : Bool) → length s ≤ i → Sofar (take i s) n ds fs p → Sofar s n ds fs p
