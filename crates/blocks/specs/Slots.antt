@@ -100,7 +100,7 @@ abbrev pub ending : MFunction → Bool → Bool
 ending End e = true
 ending Other e = e
 
--- how many M words a block may have
+-- a block may have five M words
 abbrev pub full : Ms → Bool
 full s = nat_le 5 s.count
 
