@@ -1,7 +1,8 @@
 -- What one turn over the words keeps, and where it stops.
-use Rattle.std.proofs.Common.{◌≡◌, ℕ, ◌<◌, ◌≤◌, Bool, true, false, List, [], ◌∷◌, length, Some, Ok, Err, Option, Result, sym, refl, ap, ◌∙◌, subst, arith}
+use Rattle.std.proofs.Common.{◌≡◌, ℕ, ◌<◌, ◌≤◌, Bool, true, false, not, List, [], ◌∷◌, length, Some, Ok, Err, Option, Result, sym, refl, ap, ◌∙◌, subst, arith}
 use Rattle.std.specs.List.{AllByRecursion}
 use Rattle.std.proofs.ByRecursion.{All-weaker}
+use Rattle.std.proofs.lemmas.Bool.{not-true, not-false}
 use Rattle.units.specs.declared.fault.Fault.{Fault}
 use Rattle.units.specs.declared.fault.Fault.TheVariants.{Repeated}
 use Rattle.reader.specs.declared.types.Item.{Item}
@@ -45,8 +46,10 @@ module _ (bs : List ℕ) (p q : ℕ) (s : Slots) (o : Order) (k : Kept bs p s o)
   tells x b e = ap (λ u. taken u x.says) (sym k.held) ∙ sym e
 
   module _ (at : ℕ) (t : List ℕ) (x : Item) (r : ItemRead bs p q t at x) where
-    pub next_word : (s' : Slots) (o' : Order) → false ≡ taken s x.says → s' ≡ put s x → o' ≡ noted o x → Kept bs q s' o'
-    next_word s' o' free e n =
+    pub next_word : (s' : Slots) (o' : Order) (b : Bool) → b ≡ true → b ≡ not (taken s x.says) → (b ≡ true → s' ≡ put s x) → o' ≡ noted o x → Kept bs q s' o'
+    next_word s' o' b told is puts n =
+        let free = sym (not-true (taken s x.says) (sym is ∙ told)) in
+        let e = puts told in
         let new = sym (taken_is k.words x.says) ∙ tells x false free in
         let from = r.run.from in
         let some = r.run.is_run.some in
@@ -61,8 +64,10 @@ module _ (bs : List ℕ) (p q : ℕ) (s : Slots) (o : Order) (k : Kept bs p s o)
           settled = settle_word bs p q at t k.words r.run k.settled x r.says new;
         }
 
-    pub stop_repeated : true ≡ taken s x.says → Stops bs (Repeated x.place)
-    stop_repeated e = settle_again bs p q at t k.words r.run k.settled x r.says (sym (taken_is k.words x.says) ∙ tells x true e)
+    pub stop_repeated : (b : Bool) → b ≡ false → b ≡ not (taken s x.says) → Stops bs (Repeated x.place)
+    stop_repeated b full is =
+        let e = sym (not-false (taken s x.says) (sym is ∙ full)) in
+        settle_again bs p q at t k.words r.run k.settled x r.says (sym (taken_is k.words x.says) ∙ tells x true e)
 
   pub stop_declined : (f : Fault) → DeclinedRead bs p q f → Stops bs f
   stop_declined f d = settle_wrong bs p q d.at d.text k.words d.run k.settled f d.declined

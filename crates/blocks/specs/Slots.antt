@@ -100,6 +100,10 @@ abbrev pub ending : MFunction → Bool → Bool
 ending End e = true
 ending Other e = e
 
+-- a block may have five M words
+abbrev pub full : Ms → Bool
+full s = nat_le 5 s.count
+
 abbrev pub put_m : Ms → MFunction → Ms
 put_m s m = record { count = s.count + 1; ends = ending m s.ends }
 
@@ -108,7 +112,7 @@ taken s (s_name f) = taken_name s.names f
 taken s (s_axis a n) = taken_axis s.axes a
 taken s (s_rpl n) = is_some s.rpl
 taken s (s_g g) = taken_group s.groups g
-taken s (s_m m) = nat_le 5 s.ms.count
+taken s (s_m m) = full s.ms
 taken s s_n = s.n
 taken s (s_passed a) = taken_passed s.passed a
 

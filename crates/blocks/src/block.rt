@@ -24,10 +24,9 @@ fn gather(bytes: &[u8], g: &mut Gathered) -> Result<(), Fault>
         match read {
             Ok(word) => {
                 if let Some(x) = word.item() {
-                    if g.slots.taken(x.says) {
+                    if !g.slots.put(x) {
                         return Err(Fault::Repeated { place: x.place });
                     }
-                    g.slots.put(x);
                     g.order.note(x);
                 }
             }

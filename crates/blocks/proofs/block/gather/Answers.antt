@@ -1,16 +1,16 @@
-use Rattle.std.proofs.Common.{length, ap, ◌∙◌, arith}
+use Rattle.std.proofs.Common.{length, ap, ◌∙◌, arith, rules}
 use Rattle.blocks.proofs.Turns.{given, declined, next_word, stop_declined, stop_repeated, past_comment, all_read}
 use Rattle.blocks.proofs.block.gather.Goals as goal
 
-pub returns-then-taken : goal.returns-then-taken
-returns-then-taken c =
+pub returns-then-not-put : goal.returns-then-not-put
+returns-then-not-put c =
     let r = given _ _ _ _ c.loop-read.invariant.2 _ c.in-Some.ensures.steps.1 _ _ _ c.in-Ok.is c.item.ensures c.in-Some-item.is in
-    stop_repeated _ _ _ _ _ c.loop-read.invariant.3 _ _ _ r c.if-taken.ensures
+    stop_repeated _ _ _ _ _ c.loop-read.invariant.3 _ _ _ r _ (search rules) c.put.ensures.free
 
 pub loop-read-preserved-in-Some-item : goal.loop-read-preserved-in-Some-item
 loop-read-preserved-in-Some-item c =
     let r = given _ _ _ _ c.loop-read.invariant.2 _ c.in-Some.ensures.steps.1 _ _ _ c.in-Ok.is c.item.ensures c.in-Some-item.is in
-    (tt, tt, c.in-Some.ensures.steps.0 ∙ c.loop-read.invariant.2, next_word _ _ _ _ _ c.loop-read.invariant.3 _ _ _ r _ _ c.if-taken.ensures c.put.ensures c.note.ensures)
+    (tt, tt, c.in-Some.ensures.steps.0 ∙ c.loop-read.invariant.2, next_word _ _ _ _ _ c.loop-read.invariant.3 _ _ _ r _ _ _ (search rules) c.put.ensures.free c.put.ensures.filled c.note.ensures)
 
 pub loop-read-preserved : goal.loop-read-preserved
 loop-read-preserved c =
