@@ -44,16 +44,18 @@ fn first_axis<F: Fn(usize) -> bool>(test: F) -> Option<Axis>
 }
 
 impl Stepped {
-    fn first_beyond(&self) -> Option<Axis>
-        ensures { result ≡ first_axis (is_beyond self.now.moved self.now.image) }
+    fn first_beyond(self) -> Option<Axis>
+        ensures { result ≡ first_axis (is_beyond self.moved self.image) }
     {
-        first_axis(|a| self.moved[a] && self.image.at[a].unsigned_abs() > FAR)
+        let Stepped { image, moved } = self;
+        first_axis(|a| moved[a] && image.at[a].unsigned_abs() > FAR)
     }
 
-    fn first_wide(&self, tolerance: Tolerance) -> Option<Axis>
-        ensures { result ≡ first_axis (is_wide self.now.moved tolerance.units self.now.image) }
+    fn first_wide(self, tolerance: Tolerance) -> Option<Axis>
+        ensures { result ≡ first_axis (is_wide self.moved tolerance.units self.image) }
     {
-        first_axis(|a| self.moved[a] && self.image.spread[a] > tolerance.units)
+        let Stepped { image, moved } = self;
+        first_axis(|a| moved[a] && image.spread[a] > tolerance.units)
     }
 
     /// 13 over the axes, then 14, each in axis order.
