@@ -1,14 +1,15 @@
 // Values by axis, in the order X, Y, Z.
 ghost use Rattle.std.specs.Prelude.{◌≡◌, false, slice_index_or};
-ghost use Rattle.workpiece.specs.Axes.{ByAxis};
+ghost use Rattle.workpiece.specs.Axes.{EachAxis};
 ghost use Rattle.workpiece.specs.Plans.{first_of};
 
 use units::axis::Axis;
 
 /// What the function gives of the two values of each axis.
-pub fn by_axis<A: Copy, B: Copy, C, F: Fn(A, B) -> C>(a: [A; 3], b: [B; 3], of: F) -> [C; 3]
+// Written out: the proof of a closure over the index that calls the function does not close.
+pub fn each_axis<A: Copy, B: Copy, C, F: Fn(A, B) -> C>(a: [A; 3], b: [B; 3], of: F) -> [C; 3]
     requires { F.IsAlwaysCallable of }
-    ensures { ByAxis (F.post of) a b result }
+    ensures { EachAxis (F.post of) a b result }
 {
     [of(a[0], b[0]), of(a[1], b[1]), of(a[2], b[2])]
 }

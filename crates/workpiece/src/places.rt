@@ -2,7 +2,7 @@
 ghost use Rattle.std.specs.Prelude.{◌≡◌};
 ghost use Rattle.workpiece.specs.Places.{opened_at, opened as opened_where, all_open, standing as standing_by, placed_at};
 
-use crate::axes::by_axis;
+use crate::axes::each_axis;
 use reader::functions::Distance;
 use units::quantity::Length;
 
@@ -23,7 +23,7 @@ fn opened_at(touched: bool, value: Option<Length>) -> Option<Length>
 pub fn opened(touched: [bool; 3], values: [Option<Length>; 3]) -> [Option<Length>; 3]
     ensures { result ≡ opened_where touched values }
 {
-    by_axis(touched, values, opened_at)
+    each_axis(touched, values, opened_at)
 }
 
 /// Where an axis stands after its word, in units; none where it is open. The sum of G91 may be out of range.

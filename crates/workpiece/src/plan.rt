@@ -3,7 +3,7 @@ ghost use Rattle.std.specs.Prelude.{◌≡◌};
 ghost use Rattle.chains.specs.Chains.{steps_of};
 ghost use Rattle.workpiece.specs.Plans.{named_by, moved_in, standings, is_open, is_far, values_at, placed as placed_by, values_or, image_in, kept_at, kept, kept_image, reckoned, opening_all};
 
-use crate::axes::{by_axis, first_of};
+use crate::axes::{each_axis, first_of};
 use crate::force::InForce;
 use crate::places::{all_open, placed_at, standing};
 use crate::setup::Frames;
@@ -46,7 +46,7 @@ fn standings_of(
 ) -> [Option<i64>; 3]
     ensures { result ≡ standings distance words values }
 {
-    by_axis(words, values, |word, value| standing(distance, word, value))
+    each_axis(words, values, |word, value| standing(distance, word, value))
 }
 
 fn is_open(moved: bool, at: Option<i64>) -> bool
@@ -71,10 +71,10 @@ fn values_at(at: [Option<i64>; 3]) -> [Option<Length>; 3]
 fn placed(moved: [bool; 3], at: [Option<i64>; 3]) -> Result<[Option<Length>; 3], Fault>
     ensures { result ≡ placed_by moved at }
 {
-    if let Some(axis) = first_of(by_axis(moved, at, is_open)) {
+    if let Some(axis) = first_of(each_axis(moved, at, is_open)) {
         return Err(Fault::Open { place: 0, axis });
     }
-    if let Some(axis) = first_of(by_axis(moved, at, is_far)) {
+    if let Some(axis) = first_of(each_axis(moved, at, is_far)) {
         return Err(Fault::Beyond {
             place: 0,
             axis,
@@ -96,7 +96,7 @@ fn kept_at<T: Copy>(moved: bool, new: T, old: T) -> T
     if moved { new } else { old }
 }
 
-// By hand: the proof of a closure over the index does not close for signed numbers.
+// Written out: the proof of a closure over the index does not close for signed numbers.
 fn kept<T: Copy>(moved: [bool; 3], new: [T; 3], old: [T; 3]) -> [T; 3]
     ensures { (d : T) → result ≡ kept d moved new old }
 {

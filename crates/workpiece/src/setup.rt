@@ -20,6 +20,7 @@ pub struct Frames {
 }
 
 /// Frames, modal functions, what is in force, workpiece values, targets with spreads, and whether the programme has ended.
+// No `Model`: a setup can be copied, and as the list of its steps its chain would not give back the places that it does not use.
 #[derive(Clone, Copy)]
 pub struct Setup {
     pub frames: Frames,

@@ -60,10 +60,8 @@ impl<E: MachineEnd> Translator<E> {
         ensures told { result ≡ replied (handed_over (state_of E.meaning self.old) block.now place plan) }
         ensures left { state_of E.meaning self.new ≡ left_by (state_of E.meaning self.old) (handed_over (state_of E.meaning self.old) block.now place plan) }
     {
-        let targets = point_of(plan.image);
-        self.pile
-            .take_move(targets)
-            .map_err(|fault| fault.at(place))?;
+        let to = point_of(plan.image);
+        self.pile.take_move(to).map_err(|fault| fault.at(place))?;
         self.setup.settle(block, plan);
         Ok(Reply::from(plan))
     }

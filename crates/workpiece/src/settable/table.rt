@@ -22,6 +22,7 @@ pub fn record_place(settable: Settable) -> Option<usize>
 }
 
 /// The frame of a number, 1 for G54 to 6 for G59.
+// Not a `TryFrom`, which would stand with the G functions: only a call of the translator counts frames so.
 pub fn numbered_frame(number: i64) -> Option<Settable>
     ensures { result ≡ numbered_frame number }
 {

@@ -3,7 +3,7 @@ ghost use Rattle.std.specs.Prelude.{◌≡◌};
 ghost use Rattle.workpiece.specs.Setup.{setup_of};
 ghost use Rattle.workpiece.specs.Changes.{step_in, either_of, emptied, replaced_by, lengthened_by, changed, told_of, left_of};
 
-use crate::axes::by_axis;
+use crate::axes::each_axis;
 use crate::places::opened;
 use crate::setup::Setup;
 use blocks::types::{FrameChange, FrameStep};
@@ -26,7 +26,7 @@ fn step_in(plane: Plane, step: FrameStep) -> Step
 fn either(a: [bool; 3], b: [bool; 3]) -> [bool; 3]
     ensures { result ≡ either_of a b }
 {
-    by_axis(a, b, |a, b| a || b)
+    each_axis(a, b, |a, b| a || b)
 }
 
 impl Setup {
