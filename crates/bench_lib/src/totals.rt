@@ -1,7 +1,7 @@
 // What is kept of a worked text, so that two programs can be compared.
 use frames::image::Image;
 use translator::reply::Reply;
-use units::fault::{Decline, Fault, Layer};
+use units::fault::{Decline, Fault};
 
 /// How many blocks moved and how many were declined, and the sums of what was told.
 #[repr(C)]
@@ -13,6 +13,7 @@ pub struct Totals {
     pub faults: u64,
 }
 
+// Two functions for two types: a trait with an impl for each would be longer.
 fn fold(sum: u64, value: u64) -> u64 {
     sum.wrapping_mul(31).wrapping_add(value)
 }
@@ -21,40 +22,35 @@ fn fold_signed(sum: i64, value: i64) -> i64 {
     sum.wrapping_mul(31).wrapping_add(value)
 }
 
-fn layer_number(layer: Layer) -> u64 {
-    match layer {
-        Layer::Reader => 0,
-        Layer::Block => 1,
-        Layer::Frame => 2,
-        Layer::Machine => 3,
-        Layer::Call => 4,
-    }
-}
-
 impl Totals {
-    fn add_image(&mut self, image: Image) {
-        for a in 0..3 {
-            self.targets = fold_signed(self.targets, image.at[a]);
-            self.spreads = fold(self.spreads, image.spread[a]);
+    fn add_image(&mut self, image: &Image) {
+        for (at, spread) in image.at.iter().zip(&image.spread) {
+            self.targets = fold_signed(self.targets, *at);
+            self.spreads = fold(self.spreads, *spread);
         }
     }
 
     fn add_decline(&mut self, d: Decline) {
-        let mut sum = fold(self.faults, u64::from(d.number));
-        sum = fold(sum, layer_number(d.layer));
-        sum = fold(sum, d.place as u64);
-        sum = fold(sum, u64::from(d.axis));
-        sum = fold(sum, u64::from(d.step));
-        self.faults = fold(sum, u64::from(d.level));
+        let values = [
+            u64::from(d.number),
+            d.layer as u64,
+            d.place as u64,
+            u64::from(d.axis),
+            u64::from(d.step),
+            u64::from(d.level),
+        ];
+        for value in values {
+            self.faults = fold(self.faults, value);
+        }
     }
 
     /// A block that moved counts with its targets and spreads, a declined one with its fault.
     pub(crate) fn add(&mut self, answer: Result<Reply, Fault>) {
         match answer {
             Ok(reply) => {
-                if reply.moved[0] || reply.moved[1] || reply.moved[2] {
+                if reply.moved.iter().any(|moved| *moved) {
                     self.moves = self.moves.wrapping_add(1);
-                    self.add_image(reply.image);
+                    self.add_image(&reply.image);
                 }
             }
             Err(fault) => {

@@ -15,72 +15,55 @@ use units::quantity::Tolerance;
 #[cfg(test)]
 mod tests;
 
-/// How the work ended (0 and 0: all lines worked), what the rolls count, the first record of each at or after the byte 1 (start, and X target or number).
+/// How the work ended (number and place where not all lines were worked), what the rolls count, the first record of each at or after the byte 1 (start, and X target or number).
 #[derive(Clone, Copy, PartialEq, Debug)]
 pub struct Outcome {
-    pub told: (u8, usize),
+    pub told: Result<(), (u8, usize)>,
     pub moves: usize,
     pub declines: usize,
-    pub moved: (usize, i64),
-    pub declined: (usize, u8),
-}
-
-fn blank_move() -> MoveRecord {
-    MoveRecord {
-        start: 0,
-        image: Image {
-            at: [0, 0, 0],
-            spread: [0, 0, 0],
-        },
-    }
-}
-
-fn blank_decline() -> DeclineRecord {
-    DeclineRecord {
-        start: 0,
-        fault: Fault::Argument,
-    }
+    pub moved: Option<(usize, i64)>,
+    pub declined: Option<(usize, u8)>,
 }
 
 fn end() -> Result<ScaleEnd, Fault> {
-    let most = 50_000_000;
-    let bounds = Bounds::new(
-        Point {
-            x: -most,
-            y: -most,
-            z: -most,
-        },
-        Point {
-            x: most,
-            y: most,
-            z: most,
-        },
-    )?;
-    ScaleEnd::new(100, bounds)
+    let corner = |at: i64| Point {
+        x: at,
+        y: at,
+        z: at,
+    };
+    ScaleEnd::new(100, Bounds::new(corner(-50_000_000), corner(50_000_000))?)
 }
 
-fn found_move(moves: &mut Roll<MoveRecord>) -> (usize, i64) {
-    match moves.find(1) {
-        Some(record) => (record.start, record.image.at[0]),
-        None => (0, 0),
-    }
+fn number_and_place(fault: Fault) -> (u8, usize) {
+    let d = fault.decline();
+    (d.number, d.place)
 }
 
-fn found_decline(declines: &mut Roll<DeclineRecord>) -> (usize, u8) {
-    match declines.find(1) {
-        Some(record) => (record.start, record.fault.decline().number),
-        None => (0, 0),
-    }
-}
-
-fn told(answer: Result<(), Fault>) -> (u8, usize) {
-    match answer {
-        Ok(()) => (0, 0),
-        Err(fault) => {
-            let d = fault.decline();
-            (d.number, d.place)
-        }
-    }
+fn work_into(
+    text: &[u8],
+    move_places: &mut [MoveRecord],
+    moves_used: usize,
+    decline_places: &mut [DeclineRecord],
+    declines_used: usize,
+) -> Result<Outcome, Fault> {
+    let tolerance = Tolerance::new(100).ok_or(Fault::Argument)?;
+    let mut translator = Translator::new(end()?, tolerance);
+    let mut moves = Roll::new(move_places);
+    let mut declines = Roll::new(decline_places);
+    moves.resume(moves_used)?;
+    declines.resume(declines_used)?;
+    let answer = work_text(&mut translator, text, &mut moves, &mut declines);
+    Ok(Outcome {
+        told: answer.map_err(number_and_place),
+        moves: moves.count(),
+        declines: declines.count(),
+        moved: moves
+            .find(1)
+            .map(|record| (record.start, record.told.at[0])),
+        declined: declines
+            .find(1)
+            .map(|record| (record.start, record.told.decline().number)),
+    })
 }
 
 /// Works a text into two rolls of 4 places, of which some are used already.
@@ -89,35 +72,17 @@ pub fn work_into_rolls(
     moves_used: usize,
     declines_used: usize,
 ) -> Result<Outcome, Fault> {
-    let Some(tolerance) = Tolerance::new(100) else {
-        return Err(Fault::Argument);
+    let told = Image {
+        at: [0; 3],
+        spread: [0; 3],
     };
-    let mut translator = Translator::new(end()?, tolerance);
-    let mut move_places = [blank_move(); 4];
-    let mut decline_places = [blank_decline(); 4];
-    let mut moves = Roll::new(&mut move_places);
-    let mut declines = Roll::new(&mut decline_places);
-    moves.resume(moves_used)?;
-    declines.resume(declines_used)?;
-    let answer = work_text(&mut translator, text, &mut moves, &mut declines);
-    Ok(Outcome {
-        told: told(answer),
-        moves: moves.count(),
-        declines: declines.count(),
-        moved: found_move(&mut moves),
-        declined: found_decline(&mut declines),
-    })
+    let mut moves = [MoveRecord { start: 0, told }; 4];
+    let told = Fault::Argument;
+    let mut declines = [DeclineRecord { start: 0, told }; 4];
+    work_into(text, &mut moves, moves_used, &mut declines, declines_used)
 }
 
 /// The same into rolls without places.
-pub fn without_places(text: &[u8]) -> Result<(u8, usize), Fault> {
-    let Some(tolerance) = Tolerance::new(100) else {
-        return Err(Fault::Argument);
-    };
-    let mut translator = Translator::new(end()?, tolerance);
-    let mut move_places: [MoveRecord; 0] = [];
-    let mut decline_places: [DeclineRecord; 0] = [];
-    let mut moves = Roll::new(&mut move_places);
-    let mut declines = Roll::new(&mut decline_places);
-    Ok(told(work_text(&mut translator, text, &mut moves, &mut declines)))
+pub fn without_places(text: &[u8]) -> Result<Outcome, Fault> {
+    work_into(text, &mut [], 0, &mut [], 0)
 }
