@@ -4,19 +4,8 @@ use frames::image::Image;
 use questions::question::Told;
 use std::fmt;
 use translator::reply::{Reading, Reply};
-use units::axis::Plane;
-use units::fault::{Fault, Layer};
+use units::fault::Fault;
 use units::quantity::{Factor, Length};
-
-fn layer_name(layer: Layer) -> &'static str {
-    match layer {
-        Layer::Reader => "reader",
-        Layer::Block => "block",
-        Layer::Frame => "frame",
-        Layer::Machine => "machine",
-        Layer::Call => "call",
-    }
-}
 
 /// A declined call.
 #[derive(Clone, Copy)]
@@ -25,7 +14,7 @@ pub struct Declined(pub Fault);
 impl fmt::Display for Declined {
     fn fmt<W: fmt::Write>(&self, f: &mut fmt::Formatter<W>) -> fmt::Result {
         let d = self.0.decline();
-        let layer = layer_name(d.layer);
+        let layer = d.layer;
         let number = d.number;
         let place = d.place;
         let axis = d.axis;
@@ -94,24 +83,22 @@ impl fmt::Display for Targets {
     }
 }
 
-/// The letters of some axes, or `-` for none.
+/// The letters of some axes, each after a text.
 #[derive(Clone, Copy)]
-struct Letters([bool; 3]);
+pub struct Letters {
+    pub axes: [bool; 3],
+    pub before: &'static str,
+}
 
 impl fmt::Display for Letters {
     fn fmt<W: fmt::Write>(&self, f: &mut fmt::Formatter<W>) -> fmt::Result {
-        let [x, y, z] = self.0;
-        let text = match (x, y, z) {
-            (false, false, false) => "-",
-            (true, false, false) => "X",
-            (false, true, false) => "Y",
-            (true, true, false) => "XY",
-            (false, false, true) => "Z",
-            (true, false, true) => "XZ",
-            (false, true, true) => "YZ",
-            (true, true, true) => "XYZ",
-        };
-        f.write_str(text)
+        let before = self.before;
+        for (letter, named) in "XYZ".chars().zip(self.axes) {
+            if named {
+                write!(f, "{before}{letter}")?;
+            }
+        }
+        Ok(())
     }
 }
 
@@ -121,9 +108,13 @@ pub struct Moved(pub Reply);
 
 impl fmt::Display for Moved {
     fn fmt<W: fmt::Write>(&self, f: &mut fmt::Formatter<W>) -> fmt::Result {
-        let axes = Letters(self.0.moved);
+        let none = if self.0.moved == [false; 3] { "-" } else { "" };
+        let axes = Letters {
+            axes: self.0.moved,
+            before: "",
+        };
         let targets = Targets(self.0.image);
-        write!(f, "moved {axes} {targets}")
+        write!(f, "moved {none}{axes} {targets}")
     }
 }
 
@@ -145,78 +136,28 @@ impl fmt::Display for State {
 
 /// The values of the named axes, each after a space and its letter.
 #[derive(Clone, Copy)]
-pub struct ByAxis(pub [Option<i64>; 3]);
+pub struct Values([Option<i64>; 3]);
 
-impl fmt::Display for ByAxis {
+impl From<[Option<Length>; 3]> for Values {
+    fn from(lengths: [Option<Length>; 3]) -> Values {
+        Values(lengths.map(|length| length.map(|length| length.units)))
+    }
+}
+
+impl From<[Option<Factor>; 3]> for Values {
+    fn from(factors: [Option<Factor>; 3]) -> Values {
+        Values(factors.map(|factor| factor.map(|factor| i64::from(factor.parts))))
+    }
+}
+
+impl fmt::Display for Values {
     fn fmt<W: fmt::Write>(&self, f: &mut fmt::Formatter<W>) -> fmt::Result {
-        if let Some(x) = self.0[0] {
-            write!(f, " X {x}")?;
-        }
-        if let Some(y) = self.0[1] {
-            write!(f, " Y {y}")?;
-        }
-        if let Some(z) = self.0[2] {
-            write!(f, " Z {z}")?;
+        for (letter, value) in "XYZ".chars().zip(self.0) {
+            if let Some(value) = value {
+                write!(f, " {letter} {value}")?;
+            }
         }
         Ok(())
-    }
-}
-
-fn units_of(length: Option<Length>) -> Option<i64> {
-    match length {
-        Some(length) => Some(length.units),
-        None => None,
-    }
-}
-
-fn parts_of(factor: Option<Factor>) -> Option<i64> {
-    match factor {
-        Some(factor) => Some(i64::from(factor.parts)),
-        None => None,
-    }
-}
-
-pub fn lengths(values: [Option<Length>; 3]) -> ByAxis {
-    ByAxis([
-        units_of(values[0]),
-        units_of(values[1]),
-        units_of(values[2]),
-    ])
-}
-
-pub fn factors(values: [Option<Factor>; 3]) -> ByAxis {
-    ByAxis([
-        parts_of(values[0]),
-        parts_of(values[1]),
-        parts_of(values[2]),
-    ])
-}
-
-/// The letters of some axes, each after a space.
-#[derive(Clone, Copy)]
-pub struct Named(pub [bool; 3]);
-
-impl fmt::Display for Named {
-    fn fmt<W: fmt::Write>(&self, f: &mut fmt::Formatter<W>) -> fmt::Result {
-        let [x, y, z] = self.0;
-        if x {
-            write!(f, " X")?;
-        }
-        if y {
-            write!(f, " Y")?;
-        }
-        if z {
-            write!(f, " Z")?;
-        }
-        Ok(())
-    }
-}
-
-pub fn plane_name(plane: Plane) -> &'static str {
-    match plane {
-        Plane::Xy => "G17",
-        Plane::Zx => "G18",
-        Plane::Yz => "G19",
     }
 }
 
@@ -232,19 +173,18 @@ impl fmt::Display for StepLine {
         let n = self.number;
         match self.step {
             Step::Offset(values) => {
-                let values = lengths(values);
+                let values = Values::from(values);
                 write!(f, "step {n} offset{values}")
             }
             Step::Scale(values) => {
-                let values = factors(values);
+                let values = Values::from(values);
                 write!(f, "step {n} scale{values}")
             }
             Step::Mirror(axes) => {
-                let axes = Named(axes);
+                let axes = Letters { axes, before: " " };
                 write!(f, "step {n} mirror{axes}")
             }
             Step::Turn(plane, angle) => {
-                let plane = plane_name(plane);
                 let ticks = angle.ticks;
                 write!(f, "step {n} turn {plane} {ticks}")
             }

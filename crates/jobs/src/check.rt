@@ -8,12 +8,10 @@ use crate::says::Says;
 use blocks::block::typed_block;
 use blocks::types::{Block, LengthUnit};
 use lines::reader::LineReader;
+use programmes::work::LONGEST;
 use std::alloc::AllocError;
 use std::fmt;
 use units::fault::Fault;
-
-/// How many bytes a programme text may have.
-const TEXT_BYTES: usize = 65_536;
 
 /// What is said of a block.
 #[derive(Clone, Copy)]
@@ -80,8 +78,7 @@ fn inch_after(block: Result<Block, Fault>, inch: bool) -> bool
 fn check_blocks(text: &[u8], report: &mut Report) -> Result<(), AllocError> {
     let mut inch = false;
     let mut tally = Tally::default();
-    let mut reader = LineReader::new(text);
-    while let Some(line) = reader.next_line() {
+    for line in LineReader::new(text) {
         let block = typed_block(line.bytes, inch);
         report.say(AtByte {
             start: line.start,
@@ -95,7 +92,7 @@ fn check_blocks(text: &[u8], report: &mut Report) -> Result<(), AllocError> {
 
 /// Tells of every block of a programme text what it says or why it is declined.
 pub fn check(text: &[u8], report: &mut Report) -> Result<(), AllocError> {
-    if text.len() > TEXT_BYTES {
+    if text.len() > LONGEST {
         return report.say(Declined(Fault::Argument));
     }
     check_blocks(text, report)

@@ -21,14 +21,14 @@ impl Report {
     fn say_move(&mut self, record: &MoveRecord) -> Result<(), AllocError> {
         self.say(AtByte {
             start: record.start,
-            said: Targets(record.image),
+            said: Targets(record.told),
         })
     }
 
     fn say_decline(&mut self, record: &DeclineRecord) -> Result<(), AllocError> {
         self.say(AtByte {
             start: record.start,
-            said: Declined(record.fault),
+            said: Declined(record.told),
         })
     }
 
@@ -60,18 +60,19 @@ impl Job {
         text: &[u8],
         rolls: Capacities,
     ) -> Result<(), AllocError> {
-        let image = Image {
-            at: [0, 0, 0],
-            spread: [0, 0, 0],
-        };
-        let mut moves = vec![in self.heap; MoveRecord { start: 0, image }; room(
-            rolls.moves,
-            text
-        )]?;
-        let mut declines = vec![in self.heap; DeclineRecord {
+        let blank_move = MoveRecord {
             start: 0,
-            fault: Fault::Argument
-        }; room(rolls.declines, text)]?;
+            told: Image {
+                at: [0; 3],
+                spread: [0; 3],
+            },
+        };
+        let blank_decline = DeclineRecord {
+            start: 0,
+            told: Fault::Argument,
+        };
+        let mut moves = vec![in self.heap; blank_move; room(rolls.moves, text)]?;
+        let mut declines = vec![in self.heap; blank_decline; room(rolls.declines, text)]?;
         let mut move_roll = Roll::new(moves.as_mut_slice());
         let mut decline_roll = Roll::new(declines.as_mut_slice());
         let told = work_text(translator, text, &mut move_roll, &mut decline_roll);

@@ -1,8 +1,6 @@
 // What is written of a right block.
-use crate::answers::{Named, factors, lengths, plane_name};
-use blocks::types::{
-    Block, Distance, FrameChange, FrameStep, LengthUnit, Motion, Ordinary, Selections, Settable,
-};
+use crate::answers::{Letters, Values};
+use blocks::types::{Block, FrameChange, FrameStep, Ordinary, Selections};
 use std::fmt;
 use units::axis::Side;
 
@@ -18,7 +16,7 @@ impl fmt::Display for Instruction {
         let a = self.letter;
         match self.step {
             FrameStep::Offset(values) => {
-                let values = lengths(values);
+                let values = Values::from(values);
                 write!(f, " {a}TRANS{values}")
             }
             FrameStep::Turn(angle) => {
@@ -26,47 +24,29 @@ impl fmt::Display for Instruction {
                 write!(f, " {a}ROT RPL {ticks}")
             }
             FrameStep::Scale(values) => {
-                let values = factors(values);
+                let values = Values::from(values);
                 write!(f, " {a}SCALE{values}")
             }
             FrameStep::Mirror(axes) => {
-                let axes = Named(axes);
+                let axes = Letters { axes, before: " " };
                 write!(f, " {a}MIRROR{axes}")
             }
         }
     }
 }
 
-fn motion_name(motion: Motion) -> &'static str {
-    match motion {
-        Motion::Rapid => " G0",
-        Motion::Linear => " G1",
-    }
+/// A selected function after a space, or nothing.
+#[derive(Clone, Copy, Drop)]
+struct Spaced<T> {
+    function: Option<T>,
 }
 
-fn settable_name(settable: Settable) -> &'static str {
-    match settable {
-        Settable::G500 => " G500",
-        Settable::G54 => " G54",
-        Settable::G55 => " G55",
-        Settable::G56 => " G56",
-        Settable::G57 => " G57",
-        Settable::G58 => " G58",
-        Settable::G59 => " G59",
-    }
-}
-
-fn unit_name(unit: LengthUnit) -> &'static str {
-    match unit {
-        LengthUnit::Inch => " G70",
-        LengthUnit::Millimetre => " G71",
-    }
-}
-
-fn distance_name(distance: Distance) -> &'static str {
-    match distance {
-        Distance::Absolute => " G90",
-        Distance::Incremental => " G91",
+impl<T: fmt::Display> fmt::Display for Spaced<T> {
+    fn fmt<W: fmt::Write>(&self, f: &mut fmt::Formatter<W>) -> fmt::Result {
+        match &self.function {
+            Some(function) => write!(f, " {function}"),
+            None => Ok(()),
+        }
     }
 }
 
@@ -76,23 +56,22 @@ struct Selected(Selections);
 
 impl fmt::Display for Selected {
     fn fmt<W: fmt::Write>(&self, f: &mut fmt::Formatter<W>) -> fmt::Result {
-        if let Some(motion) = self.0.motion {
-            f.write_str(motion_name(motion))?;
-        }
-        if let Some(plane) = self.0.plane {
-            let name = plane_name(plane);
-            write!(f, " {name}")?;
-        }
-        if let Some(settable) = self.0.settable {
-            f.write_str(settable_name(settable))?;
-        }
-        if let Some(unit) = self.0.unit {
-            f.write_str(unit_name(unit))?;
-        }
-        if let Some(distance) = self.0.distance {
-            f.write_str(distance_name(distance))?;
-        }
-        Ok(())
+        let motion = Spaced {
+            function: self.0.motion,
+        };
+        let plane = Spaced {
+            function: self.0.plane,
+        };
+        let settable = Spaced {
+            function: self.0.settable,
+        };
+        let unit = Spaced {
+            function: self.0.unit,
+        };
+        let distance = Spaced {
+            function: self.0.distance,
+        };
+        write!(f, "{motion}{plane}{settable}{unit}{distance}")
     }
 }
 
@@ -119,11 +98,8 @@ impl fmt::Display for Plain {
             return f.write_str(" -");
         }
         let selected = Selected(self.0.selections);
-        let machine = match self.0.machine {
-            Some(_) => " G53",
-            None => "",
-        };
-        let words = lengths(self.0.words);
+        let machine = if self.0.machine.is_some() { " G53" } else { "" };
+        let words = Values::from(self.0.words);
         let ends = if self.0.ends { " ends" } else { "" };
         write!(f, "{selected}{machine}{words}{ends}")
     }
@@ -153,7 +129,7 @@ impl fmt::Display for Says {
                     Side::Lower => "G25",
                     Side::Upper => "G26",
                 };
-                let values = lengths(values);
+                let values = Values::from(values);
                 write!(f, " {name}{values}")
             }
             Block::Ordinary(ordinary) => f.write(Plain(ordinary)),

@@ -14,7 +14,7 @@ use translator::translator::Translator;
 use units::fault::Fault;
 
 /// How many bytes a text may have.
-const LONGEST: usize = 65_536;
+pub const LONGEST: usize = 65_536;
 
 // Files what a block was answered; both rolls have a place left.
 fn file(
