@@ -134,7 +134,7 @@ def rust(step):
         return f"Raw::Turn(Plane::{step[1]}, {step[2]})"
     if kind == "Mirror":
         return f"Raw::Mirror({flags(step[1])})"
-    return f"Raw::{kind}({listed('None' if v is None else f'Some({v})' for v in step[1])})"
+    return "Raw::%s(%s)" % (kind, ", ".join("None" if v is None else f"Some({v})" for v in step[1]))
 
 
 def answer(told):

@@ -6,6 +6,7 @@ use crate::step::Step;
 pub mod work;
 
 /// At most eight steps, the outermost first.
+// No model: the view of a `Copy` struct has to give its fields back, and the list of the steps forgets what lies past the count.
 #[derive(Clone, Copy)]
 pub struct Chain {
     pub steps: [Step; 8],

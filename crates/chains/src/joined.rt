@@ -36,6 +36,7 @@ impl Chain {
         ensures moved { MovedAxes (steps_of self.now) named result }
     {
         let (xy, yz, zx) = (self.joins_next(0), self.joins_next(1), self.joins_next(2));
+        // Three rows by hand: by index, each place would be taken modulo 3.
         [
             reaches(named[0], named[1], named[2], xy, yz, zx),
             reaches(named[1], named[2], named[0], yz, zx, xy),

@@ -270,7 +270,7 @@ pub static CASES: &[Case] = &[
     Case {
         steps: &[
             Raw::Turn(Plane::Xy, 900000),
-            Raw::Scale([Some(33333), None, None]),
+            Raw::Scale(Some(33333), None, None),
         ],
         moved: [true, true, true],
         values: [7, 11, 13],
@@ -284,7 +284,7 @@ pub static CASES: &[Case] = &[
     Case {
         steps: &[
             Raw::Turn(Plane::Zx, 900000),
-            Raw::Scale([Some(33333), None, Some(100000)]),
+            Raw::Scale(Some(33333), None, Some(100000)),
         ],
         moved: [true, true, true],
         values: [7, 11, 13],
@@ -298,7 +298,7 @@ pub static CASES: &[Case] = &[
     Case {
         steps: &[
             Raw::Turn(Plane::Yz, 2700000),
-            Raw::Scale([None, Some(99999), None]),
+            Raw::Scale(None, Some(99999), None),
         ],
         moved: [true, true, true],
         values: [7, 11, 13],
@@ -332,7 +332,7 @@ pub static CASES: &[Case] = &[
         }),
     },
     Case {
-        steps: &[Raw::Scale([Some(50000), Some(50000), Some(50000)])],
+        steps: &[Raw::Scale(Some(50000), Some(50000), Some(50000))],
         moved: [true, true, true],
         values: [5, -5, 4],
         offset: [0, 0, 0],
@@ -343,7 +343,7 @@ pub static CASES: &[Case] = &[
         }),
     },
     Case {
-        steps: &[Raw::Scale([Some(1), Some(10000000), Some(100000)])],
+        steps: &[Raw::Scale(Some(1), Some(10000000), Some(100000))],
         moved: [true, true, true],
         values: [999999999, 19999999, -999999999],
         offset: [0, 0, 0],
@@ -355,7 +355,7 @@ pub static CASES: &[Case] = &[
     },
     Case {
         steps: &[
-            Raw::Scale([Some(250000), Some(250000), Some(1)]),
+            Raw::Scale(Some(250000), Some(250000), Some(1)),
             Raw::Turn(Plane::Xy, 300000),
         ],
         moved: [true, true, true],
@@ -369,8 +369,8 @@ pub static CASES: &[Case] = &[
     },
     Case {
         steps: &[
-            Raw::Scale([Some(66667), None, Some(33333)]),
-            Raw::Scale([Some(33333), Some(150000), None]),
+            Raw::Scale(Some(66667), None, Some(33333)),
+            Raw::Scale(Some(33333), Some(150000), None),
         ],
         moved: [true, true, true],
         values: [50, 51, -52],
@@ -383,8 +383,8 @@ pub static CASES: &[Case] = &[
     },
     Case {
         steps: &[
-            Raw::Scale([Some(200000), Some(200000), None]),
-            Raw::Offset([Some(1000000), Some(500000), None]),
+            Raw::Scale(Some(200000), Some(200000), None),
+            Raw::Offset(Some(1000000), Some(500000), None),
         ],
         moved: [true, true, true],
         values: [0, 0, 0],
@@ -397,8 +397,8 @@ pub static CASES: &[Case] = &[
     },
     Case {
         steps: &[
-            Raw::Offset([Some(1000000), Some(500000), None]),
-            Raw::Scale([Some(200000), Some(200000), None]),
+            Raw::Offset(Some(1000000), Some(500000), None),
+            Raw::Scale(Some(200000), Some(200000), None),
         ],
         moved: [true, true, true],
         values: [0, 0, 0],
@@ -412,7 +412,7 @@ pub static CASES: &[Case] = &[
     Case {
         steps: &[
             Raw::Mirror([true, false, true]),
-            Raw::Offset([Some(5), Some(5), None]),
+            Raw::Offset(Some(5), Some(5), None),
             Raw::Mirror([true, true, false]),
         ],
         moved: [true, true, true],
@@ -426,7 +426,7 @@ pub static CASES: &[Case] = &[
     },
     Case {
         steps: &[
-            Raw::Offset([Some(5000000), None, None]),
+            Raw::Offset(Some(5000000), None, None),
             Raw::Turn(Plane::Xy, 600000),
             Raw::Turn(Plane::Xy, 600000),
             Raw::Turn(Plane::Xy, 600000),
@@ -470,7 +470,7 @@ pub static CASES: &[Case] = &[
         }),
     },
     Case {
-        steps: &[Raw::Scale([Some(33333), Some(50000), Some(50000)])],
+        steps: &[Raw::Scale(Some(33333), Some(50000), Some(50000))],
         moved: [true, false, false],
         values: [5, 5, 5],
         offset: [0, 0, 0],
@@ -505,8 +505,8 @@ pub static CASES: &[Case] = &[
     },
     Case {
         steps: &[
-            Raw::Offset([Some(999999999), Some(999999999), Some(999999999)]),
-            Raw::Scale([None, Some(200000), None]),
+            Raw::Offset(Some(999999999), Some(999999999), Some(999999999)),
+            Raw::Scale(None, Some(200000), None),
         ],
         moved: [true, true, true],
         values: [999999999, 999999999, 999999999],
@@ -520,8 +520,8 @@ pub static CASES: &[Case] = &[
     },
     Case {
         steps: &[
-            Raw::Offset([Some(999999999), Some(999999999), Some(999999999)]),
-            Raw::Scale([None, Some(210000), None]),
+            Raw::Offset(Some(999999999), Some(999999999), Some(999999999)),
+            Raw::Scale(None, Some(210000), None),
         ],
         moved: [true, true, true],
         values: [999999999, 999999999, 999999999],
@@ -535,8 +535,8 @@ pub static CASES: &[Case] = &[
     },
     Case {
         steps: &[
-            Raw::Offset([None, Some(999999999), Some(999999999)]),
-            Raw::Scale([None, Some(200000), None]),
+            Raw::Offset(None, Some(999999999), Some(999999999)),
+            Raw::Scale(None, Some(200000), None),
         ],
         moved: [true, true, true],
         values: [0, 999999999, 999999999],
@@ -550,7 +550,7 @@ pub static CASES: &[Case] = &[
     },
     Case {
         steps: &[
-            Raw::Scale([Some(10000000), None, None]),
+            Raw::Scale(Some(10000000), None, None),
             Raw::Turn(Plane::Yz, 1),
         ],
         moved: [true, true, true],
@@ -565,7 +565,7 @@ pub static CASES: &[Case] = &[
     },
     Case {
         steps: &[
-            Raw::Scale([Some(10000000), None, None]),
+            Raw::Scale(Some(10000000), None, None),
             Raw::Turn(Plane::Yz, 1),
         ],
         moved: [true, true, true],
@@ -579,7 +579,7 @@ pub static CASES: &[Case] = &[
         }),
     },
     Case {
-        steps: &[Raw::Scale([None, Some(200000), Some(200000)])],
+        steps: &[Raw::Scale(None, Some(200000), Some(200000))],
         moved: [true, true, true],
         values: [999999999, 999999999, 999999999],
         offset: [999999999, 2, -999999999],
@@ -591,8 +591,8 @@ pub static CASES: &[Case] = &[
     },
     Case {
         steps: &[
-            Raw::Offset([None, None, Some(-999999999)]),
-            Raw::Offset([None, None, Some(-999999999)]),
+            Raw::Offset(None, None, Some(-999999999)),
+            Raw::Offset(None, None, Some(-999999999)),
         ],
         moved: [true, true, true],
         values: [0, 0, -2],
@@ -617,7 +617,7 @@ pub static CASES: &[Case] = &[
     },
     Case {
         steps: &[
-            Raw::Scale([Some(144349), Some(83484), Some(48477)]),
+            Raw::Scale(Some(144349), Some(83484), Some(48477)),
             Raw::Turn(Plane::Zx, 292004),
             Raw::Turn(Plane::Yz, 1800000),
             Raw::Turn(Plane::Yz, 351779),
@@ -636,9 +636,9 @@ pub static CASES: &[Case] = &[
     Case {
         steps: &[
             Raw::Turn(Plane::Yz, 53797),
-            Raw::Scale([Some(90347), Some(24099), None]),
+            Raw::Scale(Some(90347), Some(24099), None),
             Raw::Mirror([true, true, true]),
-            Raw::Scale([Some(154872), Some(112493), Some(117817)]),
+            Raw::Scale(Some(154872), Some(112493), Some(117817)),
         ],
         moved: [true, true, true],
         values: [-702896099, -95149488, 111006174],
@@ -655,7 +655,7 @@ pub static CASES: &[Case] = &[
             Raw::Turn(Plane::Yz, 2994154),
             Raw::Mirror([false, true, true]),
             Raw::Mirror([true, true, false]),
-            Raw::Scale([Some(136663), Some(165438), Some(26980)]),
+            Raw::Scale(Some(136663), Some(165438), Some(26980)),
         ],
         moved: [true, true, true],
         values: [852454191, 763479405, -466498235],
@@ -668,11 +668,11 @@ pub static CASES: &[Case] = &[
     },
     Case {
         steps: &[
-            Raw::Offset([Some(-189080653), None, Some(-824571779)]),
-            Raw::Offset([None, Some(967495277), None]),
+            Raw::Offset(Some(-189080653), None, Some(-824571779)),
+            Raw::Offset(None, Some(967495277), None),
             Raw::Turn(Plane::Zx, 1039936),
             Raw::Turn(Plane::Xy, 2533671),
-            Raw::Offset([Some(-656277663), Some(-81093481), None]),
+            Raw::Offset(Some(-656277663), Some(-81093481), None),
         ],
         moved: [true, true, true],
         values: [956222097, -329394212, -890355870],
@@ -687,9 +687,9 @@ pub static CASES: &[Case] = &[
         steps: &[
             Raw::Turn(Plane::Yz, 1908734),
             Raw::Turn(Plane::Zx, 1800000),
-            Raw::Scale([None, Some(121667), Some(7637)]),
+            Raw::Scale(None, Some(121667), Some(7637)),
             Raw::Mirror([true, true, true]),
-            Raw::Offset([None, Some(-519710232), Some(-395647126)]),
+            Raw::Offset(None, Some(-519710232), Some(-395647126)),
         ],
         moved: [true, true, true],
         values: [-430874402, 949488066, 470756440],
@@ -703,12 +703,12 @@ pub static CASES: &[Case] = &[
     Case {
         steps: &[
             Raw::Mirror([false, false, true]),
-            Raw::Scale([None, None, Some(189560)]),
-            Raw::Offset([Some(-919330851), None, None]),
+            Raw::Scale(None, None, Some(189560)),
+            Raw::Offset(Some(-919330851), None, None),
             Raw::Turn(Plane::Zx, 672102),
-            Raw::Scale([Some(181972), None, None]),
-            Raw::Scale([None, Some(107751), None]),
-            Raw::Scale([None, None, None]),
+            Raw::Scale(Some(181972), None, None),
+            Raw::Scale(None, Some(107751), None),
+            Raw::Scale(None, None, None),
         ],
         moved: [true, true, true],
         values: [-661089603, -975325208, -894709795],
@@ -736,10 +736,10 @@ pub static CASES: &[Case] = &[
     },
     Case {
         steps: &[
-            Raw::Offset([Some(793029997), Some(402045939), None]),
-            Raw::Offset([None, None, None]),
-            Raw::Scale([Some(77520), Some(75843), None]),
-            Raw::Scale([Some(169859), Some(128207), Some(151572)]),
+            Raw::Offset(Some(793029997), Some(402045939), None),
+            Raw::Offset(None, None, None),
+            Raw::Scale(Some(77520), Some(75843), None),
+            Raw::Scale(Some(169859), Some(128207), Some(151572)),
             Raw::Turn(Plane::Yz, 1800000),
         ],
         moved: [true, true, true],
@@ -756,11 +756,11 @@ pub static CASES: &[Case] = &[
             Raw::Mirror([true, true, true]),
             Raw::Mirror([true, false, false]),
             Raw::Turn(Plane::Yz, 699213),
-            Raw::Scale([None, Some(65162), None]),
+            Raw::Scale(None, Some(65162), None),
             Raw::Turn(Plane::Xy, 0),
             Raw::Mirror([false, true, false]),
-            Raw::Scale([Some(23348), Some(94948), None]),
-            Raw::Offset([Some(760791880), None, Some(-362765977)]),
+            Raw::Scale(Some(23348), Some(94948), None),
+            Raw::Offset(Some(760791880), None, Some(-362765977)),
         ],
         moved: [true, true, true],
         values: [-3300223, -344863603, -519829115],
@@ -805,8 +805,8 @@ pub static CASES: &[Case] = &[
     },
     Case {
         steps: &[
-            Raw::Offset([Some(-871420382), Some(-6686449), Some(-915714587)]),
-            Raw::Scale([None, None, Some(175195)]),
+            Raw::Offset(Some(-871420382), Some(-6686449), Some(-915714587)),
+            Raw::Scale(None, None, Some(175195)),
             Raw::Turn(Plane::Zx, 900000),
         ],
         moved: [true, true, true],
@@ -823,11 +823,11 @@ pub static CASES: &[Case] = &[
             Raw::Turn(Plane::Yz, 0),
             Raw::Mirror([true, true, true]),
             Raw::Mirror([true, true, false]),
-            Raw::Offset([Some(-783321098), Some(-302349663), Some(-766309833)]),
-            Raw::Offset([None, None, None]),
+            Raw::Offset(Some(-783321098), Some(-302349663), Some(-766309833)),
+            Raw::Offset(None, None, None),
             Raw::Mirror([true, false, false]),
-            Raw::Offset([Some(4542109), None, None]),
-            Raw::Scale([None, Some(112453), None]),
+            Raw::Offset(Some(4542109), None, None),
+            Raw::Scale(None, Some(112453), None),
         ],
         moved: [true, true, true],
         values: [-390955171, -316543820, 777787110],
@@ -843,7 +843,7 @@ pub static CASES: &[Case] = &[
             Raw::Turn(Plane::Xy, 988462),
             Raw::Mirror([false, true, true]),
             Raw::Turn(Plane::Xy, 900000),
-            Raw::Offset([None, Some(-760547446), Some(-230385135)]),
+            Raw::Offset(None, Some(-760547446), Some(-230385135)),
         ],
         moved: [true, true, true],
         values: [-73134547, -729225790, -788517891],
@@ -856,9 +856,9 @@ pub static CASES: &[Case] = &[
     },
     Case {
         steps: &[
-            Raw::Scale([Some(191775), None, Some(133902)]),
+            Raw::Scale(Some(191775), None, Some(133902)),
             Raw::Turn(Plane::Yz, 2745817),
-            Raw::Scale([None, None, None]),
+            Raw::Scale(None, None, None),
             Raw::Mirror([false, true, false]),
         ],
         moved: [true, true, true],

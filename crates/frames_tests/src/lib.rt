@@ -13,10 +13,11 @@ use units::fault::Fault;
 use units::quantity::{Angle, Factor, Length, Tolerance};
 
 /// A step in plain numbers; an axis that it does not name has none.
+// Three options and no array of them: a constant that holds references may have no array of enums in it.
 #[derive(Clone, Copy)]
 pub enum Raw {
-    Offset([Option<i64>; 3]),
-    Scale([Option<u32>; 3]),
+    Offset(Option<i64>, Option<i64>, Option<i64>),
+    Scale(Option<u32>, Option<u32>, Option<u32>),
     Mirror([bool; 3]),
     Turn(Plane, u32),
 }
@@ -72,12 +73,13 @@ fn lengths(units: [i64; 3]) -> Option<[Length; 3]> {
 }
 
 fn step(raw: Raw) -> Option<Step> {
-    match raw {
-        Raw::Offset(by) => Some(Step::Offset(by.map(|units| units.and_then(Length::new)))),
-        Raw::Scale(by) => Some(Step::Scale(by.map(|parts| parts.and_then(Factor::new)))),
-        Raw::Mirror(named) => Some(Step::Mirror(named)),
-        Raw::Turn(plane, ticks) => Some(Step::Turn(plane, Angle::new(ticks)?)),
-    }
+    let step = match raw {
+        Raw::Offset(x, y, z) => Step::Offset([x, y, z].map(|by| by.and_then(Length::new))),
+        Raw::Scale(x, y, z) => Step::Scale([x, y, z].map(|by| by.and_then(Factor::new))),
+        Raw::Mirror(named) => Step::Mirror(named),
+        Raw::Turn(plane, ticks) => Step::Turn(plane, Angle::new(ticks)?),
+    };
+    Some(step)
 }
 
 /// The chain of the steps, appended one by one; none where a number is out of its range or a step is declined.
@@ -156,7 +158,7 @@ mod tests {
             appended(mirrors(8), Raw::Mirror([true, false, false])),
             Some((Err(10), 8))
         );
-        let offset = Raw::Offset([Some(5), None, None]);
+        let offset = Raw::Offset(Some(5), None, None);
         let other = Raw::Turn(Plane::Zx, 5);
         let full = chain(&[
             offset, offset, offset, offset, offset, offset, offset, other,
@@ -175,7 +177,7 @@ mod tests {
 
     #[test]
     fn axes(rt: HostRuntime) {
-        let c = chain(&[Raw::Turn(Plane::Zx, 0), Raw::Offset([None, Some(0), None])]).expect(
+        let c = chain(&[Raw::Turn(Plane::Zx, 0), Raw::Offset(None, Some(0), None)]).expect(
             &rt,
             "two steps",
         );
@@ -189,7 +191,7 @@ mod tests {
         assert_eq!(rt; d.moved_axes([false, false, true]), [true, true, true]);
         assert_eq!(rt; d.moved_axes([false, false, false]), [false, false, false]);
         let e = chain(&[
-            Raw::Scale([Some(1), None, None]),
+            Raw::Scale(Some(1), None, None),
             Raw::Mirror([false, false, true]),
         ])
         .expect(&rt, "two steps");
