@@ -1,5 +1,5 @@
 -- The rounding division's arithmetic, over ℤ with no widths.
-use Rattle.std.proofs.Common.{◌≡◌, ℕ, zero, suc, ◌+◌, ◌*◌, ◌/◌, ◌%◌, ◌<◌, ◌≤◌, ◌⊎◌, ℤ, pos, negsuc, ◌+ℤ◌, ◌-ℤ◌, ◌*ℤ◌, neg_ℤ, nat_abs, ◌≤ℤ◌, ◌<ℤ◌, sym, refl, ◌∙◌, subst, inl, inr, mul-le-mul_right, mod-lt, div-le_self, arith, w64, SFits, to_z, of_z}
+use Rattle.std.proofs.Common.{◌≡◌, ℕ, zero, suc, ◌+◌, ◌*◌, ◌/◌, ◌%◌, ◌<◌, ◌≤◌, ◌⊎◌, ℤ, pos, negsuc, ◌+ℤ◌, ◌-ℤ◌, ◌*ℤ◌, neg_ℤ, nat_abs, ◌≤ℤ◌, ◌<ℤ◌, refl, ◌∙◌, subst, inl, inr, mul-le-mul_right, mod-lt, div-le_self, arith, w64, SFits, to_z, of_z}
 use native.Mathlib.Nat.{div-add-mod}
 use lib.Signed.{quot_z}
 use borrow.Author.Differences.{ints, up, down, quot_is}
@@ -128,9 +128,9 @@ nearest_near (negsuc a) k h = down_case a k h
 pub nearest_is : (n r : ℤ) (k : ℕ) → 0 < k → Nearest n (pos k) r → r ≡ nearest n k
 nearest_is n r k h p = one_only n (pos k) r (nearest n k) (omega (arith, ints)) p (nearest_near n k h)
 
--- both promises of the division, from the quotient through the bits of 64
-pub through_bits : (n d r : ℤ) (k : ℕ) → SFits w64 n → SFits w64 d → SFits w64 r → d ≡ pos k → 0 < k → Nearest (to_z w64 (of_z w64 n)) (to_z w64 (of_z w64 d)) r → Nearest n (pos k) (to_z w64 (of_z w64 r)) × (to_z w64 (of_z w64 r) ≡ nearest n k)
+-- the quotient through the bits of 64
+pub through_bits : (n d r : ℤ) (k : ℕ) → SFits w64 n → SFits w64 d → SFits w64 r → d ≡ pos k → 0 < k → Nearest (to_z w64 (of_z w64 n)) (to_z w64 (of_z w64 d)) r → to_z w64 (of_z w64 r) ≡ nearest n k
 through_bits n d r k fn fd fr e h p =
     let p1 = subst (λ (z : ℤ). Nearest z (to_z w64 (of_z w64 d)) r) (to_z-of_z w64 n fn) p in
     let p2 = subst (λ (z : ℤ). Nearest n z r) (to_z-of_z w64 d fd ∙ e) p1 in
-    (subst (λ (z : ℤ). Nearest n (pos k) z) (sym (to_z-of_z w64 r fr)) p2, to_z-of_z w64 r fr ∙ nearest_is n r k h p2)
+    to_z-of_z w64 r fr ∙ nearest_is n r k h p2

@@ -32,6 +32,7 @@ impl CountEnd {
     }
 }
 
+// `ask_move`, `box_count` and `limit` are the scale end's: each is one line over the box, and a trait for ends of one box is no shorter.
 impl MachineEnd for CountEnd {
     ghost meaning = { λ e. count_meaning (lengths e.increments) e.bounds e.counts };
 

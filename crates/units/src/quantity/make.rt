@@ -7,6 +7,7 @@ use crate::quantity::{Angle, Factor, Length, Tolerance};
 impl Length {
     pub const MOST: u64 = 999_999_999;
 
+    // A name, and no `Default`: none can be derived for a type with a range, and `zero` says more.
     pub fn zero() -> Length
         ensures { result ≡ zero_length }
     {
