@@ -5,7 +5,7 @@ use Rattle.std.proofs.lemmas.Slice.{first_rest}
 use Rattle.std.specs.Str.Parse.{digits_value}
 use Rattle.std.specs.Char.{is_ascii_digit, digit_value}
 use Rattle.std.specs.List.{AllByRecursion}
-use Rattle.std.proofs.lemmas.List.{take_more, length-append, length_push, take_all}
+use Rattle.std.proofs.lemmas.List.{take_more, length_push, take_all}
 use Rattle.std.proofs.lemmas.List.Elements.{filter-append}
 use Rattle.std.proofs.ByRecursion.{All-push}
 use Rattle.std.proofs.lemmas.List.Sums.{sum_by-cons, sum_by-append, sum_by_push}
@@ -38,9 +38,6 @@ code_begins (b ∷ t) h = ([], subst IsCode (sym (append-nil (b ∷ t))) (record
 
 pub code_not_digit : (t : List ℕ) (b : ℕ) → is_ascii_digit b ≡ false → Begins IsCode (t ++ b ∷ []) → ⊥
 code_not_digit t b no' (u, h) = both_ways (is_ascii_digit b) no' (all_last _ t b u h.only)
-
-pub code_ninth : (t : List ℕ) (b : ℕ) → length t ≡ 8 → Begins IsCode (t ++ b ∷ []) → ⊥
-code_ninth t b e (u, h) = omega (arith, h.most, length-append (t ++ b ∷ []) u, length_push t b)
 
 pub code_more : (t : List ℕ) (b : ℕ) → Code t → is_ascii_digit b ≡ true → length t < 8 → Code (t ++ b ∷ [])
 code_more t b h d l = record { only = All-push _ t b h.only d; most = omega (arith, length_push t b) }
@@ -218,11 +215,6 @@ begins {t} {ds = ds} h =
 pub not_allowed : (t : List ℕ) (b : ℕ) → (b < 48) ⊎ (57 < b) → (b ≡ 46 → ⊥) → Begins IsMagnitude (t ++ b ∷ []) → ⊥
 not_allowed t b out no' (u, h) =
     both_ways (is_ascii_digit b || is_point b) (or_from _ _ (⊎_elim (digit_low b) (digit_high b) out) (not_point b no')) (all_last _ t b u h.only)
-
-pub eleventh : {t : List ℕ} {n ds fs : ℕ} {p : Bool} (b : ℕ) → Sofar t n ds fs p → 48 ≤ b → b ≤ 57 → ds ≡ 10 → Begins IsMagnitude (t ++ b ∷ []) → ⊥
-eleventh {t} b s l g e (u, h) =
-    let d = digit_yes b l g in
-    omega (arith, s.digits_is, h.most, ap length (filter-append is_ascii_digit (t ++ b ∷ []) u), length-append (digits (t ++ b ∷ [])) (digits u), ap length (digits_yes t b d), length_push (digits t) b)
 
 pub second_point : {t : List ℕ} {n ds fs : ℕ} (b : ℕ) → Sofar t n ds fs true → b ≡ 46 → Begins IsMagnitude (t ++ b ∷ []) → ⊥
 second_point {t} b s e (u, h) =

@@ -87,6 +87,7 @@ pub fn read_turn(s: &[u8]) -> Result<Number, usize>
     }
 }
 
+// Not `read_magnitude` with another limit: a code has no point, so each of its bytes is a digit.
 /// 1 to 8 digits; else the place of the first wrong byte.
 pub fn read_code(s: &[u8]) -> Result<u32, usize>
     ensures { MatchResult result (λ n. IsCode s.now × (n ≡ value_of 10 s.now)) (FirstWrong IsCode s.now) }
