@@ -1,7 +1,7 @@
 // Pushing a point: each step, the tests after it, and the whole chain.
 ghost use Rattle.std.specs.Prelude.{◌≡◌, ℕ, ◌+◌, ◌<◌, Bool, IfOk};
 ghost use Rattle.chains.specs.Chains.{steps_of};
-ghost use Rattle.frames.specs.Pushing.{first_axis, is_beyond, is_wide, through, tested as passed, pushed, on_all, started};
+ghost use Rattle.frames.specs.Pushing.{first_axis, too_far, too_wide, is_beyond, is_wide, through, tested as passed, pushed, on_all, started};
 ghost use Rattle.frames.specs.Axes.{GivesAt, image_of};
 ghost use Rattle.frames.specs.Theorems.{Sound, Limited};
 
@@ -29,6 +29,19 @@ fn step_number(place: usize) -> u8
     place as u8 + 1
 }
 
+// The two tests take values already read: over the arrays, inside the closures, they cost more instructions.
+fn too_far(moved: bool, x: i64) -> bool
+    ensures { result ≡ too_far moved x }
+{
+    moved && x.unsigned_abs() > FAR
+}
+
+fn too_wide(tolerance: Tolerance, moved: bool, r: u64) -> bool
+    ensures { result ≡ too_wide tolerance.units moved r }
+{
+    moved && r > tolerance.units
+}
+
 /// The first axis of which the test is true.
 fn first_axis<F: Fn(usize) -> bool>(test: F) -> Option<Axis>
     requires { (a : ℕ) → a < 3 → F.pre test a }
@@ -48,14 +61,14 @@ impl Stepped {
         ensures { result ≡ first_axis (is_beyond self.moved self.image) }
     {
         let Stepped { image, moved } = self;
-        first_axis(|a| moved[a] && image.at[a].unsigned_abs() > FAR)
+        first_axis(|a| too_far(moved[a], image.at[a]))
     }
 
     fn first_wide(self, tolerance: Tolerance) -> Option<Axis>
         ensures { result ≡ first_axis (is_wide self.moved tolerance.units self.image) }
     {
         let Stepped { image, moved } = self;
-        first_axis(|a| moved[a] && image.spread[a] > tolerance.units)
+        first_axis(|a| too_wide(tolerance, moved[a], image.spread[a]))
     }
 
     /// 13 over the axes, then 14, each in axis order.
