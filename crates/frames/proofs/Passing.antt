@@ -167,23 +167,24 @@ started_small values (suc zero) h = lit≤ tt
 started_small values (suc (suc zero)) h = lit≤ tt
 started_small values (suc (suc (suc a))) h = absurd (omega arith)
 
--- the loop of a push, from its invariant
-module _ (steps : List Step) (k : ℕ) (m : List Bool) (tol : ℕ) (o values : List Length) (x : Image) (h : k ≤ length steps) (ex : x ≡ started values) (i : ℕ) (p : Image) (so : through_steps (drop i (take k steps)) (i + 1) m tol x ≡ Ok p) where
+-- the loop of a push, from its invariant; q is the image before the tests
+module _ (steps : List Step) (k : ℕ) (m : List Bool) (tol : ℕ) (o values : List Length) (x : Image) (h : k ≤ length steps) (ex : x ≡ started values) (i : ℕ) (p : Image) (so : through_steps (drop i (take k steps)) (i + 1) m tol x ≡ Ok p) (q : Stepped) (em : q.moved ≡ m) where
   onward_last : (r : Result Image Fault) → through_steps (take k steps) 1 m tol x ≡ r → onward 9 m tol (settable o) r ≡ pushed (take k steps) m tol o values
   onward_last r e = ap (onward 9 m tol (settable o)) (sym e ∙ ap (through_steps (take k steps) 1 m tol) ex)
 
-  module _ (some : 0 < i) (within : i ≤ k) (d : Step) (n : ℕ) (en : n ≡ i - 1 + 1) where
+  module _ (some : 0 < i) (within : i ≤ k) (d : Step) (eq : q.image ≡ through m (get_or steps (i - 1) d) p) (n : ℕ) (en : n ≡ i - 1 + 1) where
     -- the step is told by its number n
-    numbered : (r : Result Image Fault) → r ≡ tested n m tol (through m (get_or steps (i - 1) d) p) → through_steps (drop (i - 1) (take k steps)) (i - 1 + 1) m tol x ≡ r
-    numbered r e = push_next steps k m tol x h i p d some within so ∙ sym (e ∙ ap (λ (j : ℕ). tested j m tol (through m (get_or steps (i - 1) d) p)) en)
+    numbered : (r : Result Image Fault) → r ≡ tested n q.moved tol q.image → through_steps (drop (i - 1) (take k steps)) (i - 1 + 1) m tol x ≡ r
+    numbered r e =
+        push_next steps k m tol x h i p d some within so
+        ∙ sym (e ∙ ap₂ (λ (b : List Bool) (j : ℕ). tested j b tol q.image) em en ∙ ap (tested (i - 1 + 1) m tol) eq)
 
-    pub loop_next : (q : Image) → Ok q ≡ tested n m tol (through m (get_or steps (i - 1) d) p) → through_steps (drop (i - 1) (take k steps)) (i - 1 + 1) m tol x ≡ Ok q
-    loop_next q e = numbered (Ok q) e
+    pub loop_next : (r : Image) → Ok r ≡ tested n q.moved tol q.image → through_steps (drop (i - 1) (take k steps)) (i - 1 + 1) m tol x ≡ Ok r
+    loop_next r e = numbered (Ok r) e
 
-    pub loop_refused : (f : Fault) → Err f ≡ tested n m tol (through m (get_or steps (i - 1) d) p) → Err f ≡ pushed (take k steps) m tol o values
+    pub loop_refused : (f : Fault) → Err f ≡ tested n q.moved tol q.image → Err f ≡ pushed (take k steps) m tol o values
     loop_refused f e = onward_last (Err f) (push_refused (take k steps) (i - 1) 1 m tol x f (numbered (Err f) e))
 
-  -- q is the image after the settable offset
-  pub loop_ended : i ≤ 0 → (q : Stepped) → q.moved ≡ m → (b : List (Option Length)) → b ≡ on_all o → q.image ≡ through m (Offset b) p → (r : Result Image Fault) → r ≡ tested 9 q.moved tol q.image → r ≡ pushed (take k steps) m tol o values
-  loop_ended z q em b eb eq r e =
+  pub loop_ended : i ≤ 0 → (b : List (Option Length)) → b ≡ on_all o → q.image ≡ through m (Offset b) p → (r : Result Image Fault) → r ≡ tested 9 q.moved tol q.image → r ≡ pushed (take k steps) m tol o values
+  loop_ended z b eb eq r e =
       e ∙ ap₂ (λ (a : List Bool) (w : Image). tested 9 a tol w) em eq ∙ ap (λ (t : List (Option Length)). tested 9 m tol (through m (Offset t) p)) eb ∙ onward_last (Ok p) (push_end (take k steps) i m tol x p z so)

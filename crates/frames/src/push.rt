@@ -1,14 +1,13 @@
 // Pushing a point: each step, the tests after it, and the whole chain.
 ghost use Rattle.std.specs.Prelude.{◌≡◌, ℕ, ◌+◌, ◌<◌, Bool, IfOk};
 ghost use Rattle.chains.specs.Chains.{steps_of};
-ghost use Rattle.frames.specs.Pushing.{first_axis, is_beyond, is_wide, through, tested as passed, pushed, on_all, started};
+ghost use Rattle.frames.specs.Pushing.{first_axis, is_beyond, is_wide, tested as passed, pushed, on_all, started};
 ghost use Rattle.frames.specs.Axes.{GivesAt, image_of};
 ghost use Rattle.frames.specs.Theorems.{Sound, Limited};
 
 use crate::image::Image;
 use crate::tested::{Stepped, Tested};
 use chains::chain::Chain;
-use chains::step::Step;
 use units::axis::Axis;
 use units::fault::Fault;
 use units::quantity::{Length, Tolerance};
@@ -44,18 +43,16 @@ fn first_axis<F: Fn(usize) -> bool>(test: F) -> Option<Axis>
 }
 
 impl Stepped {
-    fn first_beyond(self) -> Option<Axis>
-        ensures { result ≡ first_axis (is_beyond self.moved self.image) }
+    fn first_beyond(&self) -> Option<Axis>
+        ensures { result ≡ first_axis (is_beyond self.now.moved self.now.image) }
     {
-        let Stepped { image, moved } = self;
-        first_axis(|a| moved[a] && image.at[a].unsigned_abs() > FAR)
+        first_axis(|a| self.moved[a] && self.image.at[a].unsigned_abs() > FAR)
     }
 
-    fn first_wide(self, tolerance: Tolerance) -> Option<Axis>
-        ensures { result ≡ first_axis (is_wide self.moved tolerance.units self.image) }
+    fn first_wide(&self, tolerance: Tolerance) -> Option<Axis>
+        ensures { result ≡ first_axis (is_wide self.now.moved tolerance.units self.now.image) }
     {
-        let Stepped { image, moved } = self;
-        first_axis(|a| moved[a] && image.spread[a] > tolerance.units)
+        first_axis(|a| self.moved[a] && self.image.spread[a] > tolerance.units)
     }
 
     /// 13 over the axes, then 14, each in axis order.
@@ -100,19 +97,6 @@ impl Tested {
             image: unpushed(values),
         }
     }
-
-    /// One step and the tests after it.
-    fn step_on(
-        self,
-        number: u8,
-        moved: [bool; 3],
-        tolerance: Tolerance,
-        step: &Step,
-    ) -> Result<Tested, Fault>
-        ensures { image_of result ≡ passed number moved tolerance.units (through moved step.now self.image) }
-    {
-        self.through(moved, step).tested(number, tolerance)
-    }
 }
 
 /// The settable offset names all three axes.
@@ -138,7 +122,9 @@ pub fn push(
     let mut p = Tested::start(values);
     // By index: a rule of the project for pushing, and a step is told by its place.
     for i in (0..chain.count).rev() {
-        p = p.step_on(step_number(i), moved, tolerance, &chain.steps[i])?;
+        p = p
+            .through(moved, &chain.steps[i])
+            .tested(step_number(i), tolerance)?;
     }
     p.offset(moved, on_all(offset))
         .tested(SETTABLE, tolerance)

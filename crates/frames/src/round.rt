@@ -62,7 +62,11 @@ pub fn odd_spread(i: Coordinate, j: Coordinate) -> u64
 fn rest_of(n: i64) -> u64
     ensures { result ≡ one_if (unsigned_abs n % 100000) }
 {
-    u64::from(n.unsigned_abs() % 100_000 != 0)
+    if n.unsigned_abs() % 100_000 == 0 {
+        0
+    } else {
+        1
+    }
 }
 
 /// f × coordinate / 100,000, rounded, and what that makes of the spread.

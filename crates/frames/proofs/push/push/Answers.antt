@@ -10,7 +10,7 @@ pub loop-i-preserved : goal.loop-i-preserved
 loop-i-preserved c =
     let h : c.args.chain.now.count ≤ length c.args.chain.now.steps = search rules in
     loop_next c.args.chain.now.steps c.args.chain.now.count c.args.moved c.args.tolerance.units c.args.offset c.args.values c.start-p.result.image h c.start-p.ensures c.loop-i.i c.loop-i.p.image c.loop-i.invariant
-    c.loop-i-test.true c.loop-i.auto.i c.index-chain-i.result c.step_number.result c.step_number.ensures c.in_ok-p.p.image c.in_ok-p.ensures
+    c.through.result c.through.ensures.moved c.loop-i-test.true c.loop-i.auto.i c.index-chain-i.result c.through.ensures.image c.step_number.result c.step_number.ensures c.in_ok-p.p.image c.in_ok-p.ensures
 
 pub returns-in_err-p-clause-told : goal.returns-in_err-p-clause-told
 returns-in_err-p-clause-told c =
@@ -18,16 +18,16 @@ returns-in_err-p-clause-told c =
     let e : c.from_residual.result ≡ Err c.in_err-p.field-0.0 = search rules in
     e
     ∙ loop_refused c.args.chain.now.steps c.args.chain.now.count c.args.moved c.args.tolerance.units c.args.offset c.args.values c.start-p.result.image h c.start-p.ensures c.loop-i.i c.loop-i.p.image c.loop-i.invariant
-    c.loop-i-test.true c.loop-i.auto.i c.index-chain-i.result c.step_number.result c.step_number.ensures c.in_err-p.field-0.0 c.in_err-p.ensures
+    c.through.result c.through.ensures.moved c.loop-i-test.true c.loop-i.auto.i c.index-chain-i.result c.through.ensures.image c.step_number.result c.step_number.ensures c.in_err-p.field-0.0 c.in_err-p.ensures
 
 pub returns : goal.returns
 returns c =
     let h : c.args.chain.now.count ≤ length c.args.chain.now.steps = search rules in
-    let same : c.map.result ≡ image_of c.tested.result = search rules in
+    let same : c.map.result ≡ image_of c.tested-2.result = search rules in
     let e =
     same
     ∙ loop_ended c.args.chain.now.steps c.args.chain.now.count c.args.moved c.args.tolerance.units c.args.offset c.args.values c.start-p.result.image h c.start-p.ensures c.loop-i.i c.loop-i.p.image c.loop-i.invariant
-    c.loop-i-test.false c.offset.result c.offset.ensures.moved c.on_all.result c.on_all.ensures c.offset.ensures.image (image_of c.tested.result) c.tested.ensures in
+    c.offset.result c.offset.ensures.moved c.loop-i-test.false c.on_all.result c.on_all.ensures c.offset.ensures.image (image_of c.tested-2.result) c.tested-2.ensures in
     record {
       told = e;
       sound = pushed_sound (steps_of c.args.chain.now) c.args.moved c.args.tolerance.units c.args.offset c.args.values c.map.result e;
