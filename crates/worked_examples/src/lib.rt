@@ -4,8 +4,6 @@
 ghost use Rattle.worked_examples.specs.Examples.{Examples};
 
 /// Every example of specs/Examples.antt holds.
-pub fn worked_examples_stand() -> u8
+pub fn worked_examples_stand()
     ensures { Examples }
-{
-    0
-}
+{}
