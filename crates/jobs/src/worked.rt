@@ -42,9 +42,9 @@ impl Report {
 
     fn say_seen(&mut self, call: ShiftCall, seen: Seen) -> Result<(), AllocError> {
         match seen.answer {
-            Answer::Replied(reply) => self.say_reply(call, reply, seen.reading),
-            Answer::Told(told) => self.say(Tells(told)),
-            Answer::Declined(fault) => self.say(Declined(fault)),
+            Ok(Answer::Replied(reply)) => self.say_reply(call, reply, seen.reading),
+            Ok(Answer::Told(told)) => self.say(Tells(told)),
+            Err(fault) => self.say(Declined(fault)),
         }
     }
 

@@ -10,7 +10,7 @@ use Rattle.translator.specs.declared.reply.Reply.{Reply}
 use Rattle.translator.specs.State.{State, opened, Tells}
 use Rattle.translator.specs.Work.{worked, replied, left_by}
 use Rattle.shifts.specs.declared.call.Answer.{Answer}
-use Rattle.shifts.specs.declared.call.Answer.TheVariants.{Replied as Replies, Told, Declined}
+use Rattle.shifts.specs.declared.call.Answer.TheVariants.{Replied as Replies, Told}
 use Rattle.shifts.specs.declared.call.Call.{Call}
 use Rattle.shifts.specs.declared.call.Seen.{Seen}
 use Rattle.shifts.specs.Calls.{answer_of, left_after, ShownAll, left_all, Replied}
@@ -59,7 +59,7 @@ as_many (c ∷ cs) (r ∷ rs) s h = ap suc (as_many cs rs (left_after s (block_o
 not_full : {R : Type 0} (s : RollState R) → is_full s ≡ false → s.count < length s.places
 not_full s e = leb-false (length s.places) s.count e
 
-module _ {R : Type 0} (f : ℕ → Answer → List R) (few : (start : ℕ) (a : Answer) → length (f start a) ≤ 1) where
+module _ {R : Type 0} (f : ℕ → Result Answer Fault → List R) (few : (start : ℕ) (a : Result Answer Fault) → length (f start a) ≤ 1) where
   made_more : (done : List Line) (seen : List Seen) (l : Line) (r : Seen) → length seen ≡ length done → made_by f (done ++ l ∷ []) (seen ++ r ∷ []) ≡ made_by f done seen ++ f l.start r.answer
   made_more [] [] l r e = append-nil (f l.start r.answer)
   made_more [] (y ∷ seen) l r e = absurd (omega arith)
@@ -122,19 +122,18 @@ module _ {R : Type 0} (f : ℕ → Answer → List R) (few : (start : ℕ) (a : 
         ways : (k : ℕ) → k ≤ length done → (k < length done) ⊎ (k ≡ length done)
         ways k le = grind arith
 
-few_moves : (start : ℕ) (a : Answer) → length (move_of start a) ≤ 1
-few_moves start (Replies r) = at_most (any_moved r.moved) (record { start = start; told = r.image })
+few_moves : (start : ℕ) (a : Result Answer Fault) → length (move_of start a) ≤ 1
+few_moves start (Ok (Replies r)) = at_most (any_moved r.moved) (record { start = start; told = r.image })
   where
     at_most : (b : Bool) (m : BlockRecord Image) → length (cond b (m ∷ []) []) ≤ 1
     at_most true m = lit≤ tt
     at_most false m = lit≤ tt
-few_moves start (Told t) = lit≤ tt
-few_moves start (Declined g) = lit≤ tt
+few_moves start (Ok (Told t)) = lit≤ tt
+few_moves start (Err g) = lit≤ tt
 
-few_declines : (start : ℕ) (a : Answer) → length (decline_of start a) ≤ 1
-few_declines start (Replies r) = lit≤ tt
-few_declines start (Told t) = lit≤ tt
-few_declines start (Declined g) = lit≤ tt
+few_declines : (start : ℕ) (a : Result Answer Fault) → length (decline_of start a) ≤ 1
+few_declines start (Ok a) = lit≤ tt
+few_declines start (Err g) = lit≤ tt
 
 -- so far: the lines before start are worked
 pub record Along (s : State) (text : List ℕ) (moves : RollState (BlockRecord Image)) (declines : RollState (BlockRecord Fault)) (start : ℕ) (t : State) (moves' : RollState (BlockRecord Image)) (declines' : RollState (BlockRecord Fault)) : Type 0 where
@@ -203,7 +202,7 @@ module _ {s t : State} {text : List ℕ} {moves moves' : RollState (BlockRecord 
   stopped_by next bytes read e = stopping (Err (RollFull start)) (record { start = start; bytes = bytes }, lines_from next (drop next text), read.lines, refl, e)
 
 -- what was filed for the line at a place, in a roll that a question left as it was
-pub filed_at : {R : Type 0} (f : ℕ → Answer → List R) (a : Answer) {roll asked filed : RollState R} {start k : ℕ} → filed ≡ extended asked (f k a) → asked ≡ roll → k ≡ start → filed ≡ extended roll (f start a)
+pub filed_at : {R : Type 0} (f : ℕ → Result Answer Fault → List R) (a : Result Answer Fault) {roll asked filed : RollState R} {start k : ℕ} → filed ≡ extended asked (f k a) → asked ≡ roll → k ≡ start → filed ≡ extended roll (f start a)
 filed_at f a h e p = h ∙ λ i. extended (e i) (f (p i) a)
 
 -- a text that is not too long

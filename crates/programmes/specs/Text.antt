@@ -10,7 +10,7 @@ use Rattle.translator.specs.State.{State, opened, Tells}
 use Rattle.shifts.specs.declared.call.Call.{Call}
 use Rattle.shifts.specs.declared.call.Call.TheVariants.{Block}
 use Rattle.shifts.specs.declared.call.Answer.{Answer}
-use Rattle.shifts.specs.declared.call.Answer.TheVariants.{Replied as Replies, Told, Declined}
+use Rattle.shifts.specs.declared.call.Answer.TheVariants.{Replied as Replies, Told}
 use Rattle.shifts.specs.declared.call.Seen.{Seen}
 use Rattle.shifts.specs.Calls.{Replied}
 use Rattle.shifts.specs.Law.{Law}
@@ -30,26 +30,25 @@ abbrev pub any_moved : List Bool → Bool
 any_moved moved = slice_index_or moved 0 false || (slice_index_or moved 1 false || slice_index_or moved 2 false)
 
 -- an accepted block that moved makes a move record, with its start, targets and spreads
-abbrev pub move_of : ℕ → Answer → List (BlockRecord Image)
-move_of start (Replies r) = cond (any_moved r.moved) (record { start = start; told = r.image } ∷ []) []
-move_of start (Told t) = []
-move_of start (Declined f) = []
+abbrev pub move_of : ℕ → Result Answer Fault → List (BlockRecord Image)
+move_of start (Ok (Replies r)) = cond (any_moved r.moved) (record { start = start; told = r.image } ∷ []) []
+move_of start (Ok (Told t)) = []
+move_of start (Err f) = []
 
 -- a declined one makes a decline record, with its start and fault
-abbrev pub decline_of : ℕ → Answer → List (BlockRecord Fault)
-decline_of start (Replies r) = []
-decline_of start (Told t) = []
-decline_of start (Declined f) = record { start = start; told = f } ∷ []
+abbrev pub decline_of : ℕ → Result Answer Fault → List (BlockRecord Fault)
+decline_of start (Ok a) = []
+decline_of start (Err f) = record { start = start; told = f } ∷ []
 
 -- the records that lines make, in their order, with what was seen of each
-abbrev pub made_by : {R : Type 0} → (ℕ → Answer → List R) → List Line → List Seen → List R
+abbrev pub made_by : {R : Type 0} → (ℕ → Result Answer Fault → List R) → List Line → List Seen → List R
 made_by f [] rs = []
 made_by f (l ∷ ls) [] = []
 made_by f (l ∷ ls) (r ∷ rs) = f l.start r.answer ++ made_by f ls rs
 
 -- A roll after lines were worked: their records stand behind what stood there, in order, and the places behind them are as they were.
 -- There was a place for each, and before each line one was left.
-pub record Rolled {R : Type 0} (f : ℕ → Answer → List R) (done : List Line) (seen : List Seen) (roll roll' : RollState R) : Type 0 where
+pub record Rolled {R : Type 0} (f : ℕ → Result Answer Fault → List R) (done : List Line) (seen : List Seen) (roll roll' : RollState R) : Type 0 where
   pub left : roll' ≡ extended roll (made_by f done seen)
   pub stands : records_of roll' ≡ records_of roll ++ made_by f done seen
   pub fits : roll.count + length (made_by f done seen) ≤ length roll.places

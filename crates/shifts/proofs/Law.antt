@@ -1,7 +1,8 @@
 -- The law over every shift.
-use Rattle.std.proofs.Common.{◌≡◌, ℕ, ◌*◌, ◌<◌, ◌≤◌, List, [], ◌∷◌, ◌-ℤ◌, nat_abs, sym, subst}
+use Rattle.std.proofs.Common.{◌≡◌, ℕ, ◌*◌, ◌<◌, ◌≤◌, List, [], ◌∷◌, ◌-ℤ◌, nat_abs, Result, sym, subst}
 use Rattle.units.specs.declared.axis.Axis.{Axis}
 use Rattle.units.specs.declared.axis.Point.{Point}
+use Rattle.units.specs.declared.fault.Fault.{Fault}
 use Rattle.units.specs.declared.quantity.Tolerance.{Tolerance}
 use Rattle.fractions.specs.Fractions.{Within}
 use Rattle.frames.specs.declared.image.Image.{Image}
@@ -41,7 +42,7 @@ fifteen_at s (Ask q) r w = tt
 
 module _ {inc : Axis → ℕ} where
   next : (p : Plain) (s : State) (c : Call) (r : Seen) → Follows inc p s → Shown s c r → Follows inc (after p c (was_declined r.answer)) (left_after s c)
-  next p s c r f w = subst (λ (x : Answer). Follows inc (after p c (was_declined x)) (left_after s c)) (sym w.answer) (call_follows f c)
+  next p s c r f w = subst (λ (x : Result Answer Fault). Follows inc (after p c (was_declined x)) (left_after s c)) (sym w.answer) (call_follows f c)
 
   one : (p : Plain) (s : State) (c : Call) (r : Seen) → Follows inc p s → Shown s c r → Holds inc p s c r
   one p s c r f w = record {

@@ -1,6 +1,6 @@
 -- One call more of a shift.
-use Rattle.std.proofs.Common.{◌≡◌, ℕ, ◌+◌, ◌<◌, ◌≤◌, false, cond, List, [], ◌∷◌, ◌++◌, length, get_or, take, is_ok, is_err, Ok, Err, Result, sym, refl, ap, ◌∙◌, subst, arith}
-use Rattle.std.proofs.lemmas.List.{take_all, take_more}
+use Rattle.std.proofs.Common.{◌≡◌, ℕ, ◌+◌, ◌<◌, List, [], ◌∷◌, ◌++◌, length, get_or, take, sym, refl, ap, ◌∙◌, subst}
+use Rattle.std.proofs.lemmas.List.{take_more}
 use Rattle.translator.specs.State.{State}
 use Rattle.shifts.specs.declared.call.Call.{Call}
 use Rattle.shifts.specs.declared.call.Seen.{Seen}
@@ -26,15 +26,3 @@ pub one_more : (s t u : State) (calls : List Call) (i : ℕ) (c d : Call) (rs ne
 one_more s t u calls i c d rs next r lt e h w l n =
     let whole : take i calls ++ c ∷ [] ≡ take (i + 1) calls = ap (λ (z : Call). take i calls ++ z ∷ []) e ∙ sym (take_more calls i d lt) in
     subst (λ (z : List Call). Replied s z next u) whole (subst (λ (z : List Seen). Replied s (take i calls ++ c ∷ []) z u) (sym n) (snoc s t u (take i calls) rs c r h w l))
-
--- what a push that did not fail left
-pub not_failed : {A E T : Type 0} (r : Result A E) (x y z : T) → false ≡ is_err r → z ≡ cond (is_ok r) x y → z ≡ x
-not_failed (Ok a) x y z h e = e
-not_failed (Err b) x y z h e = let w : ◌≡◌ {A = ℕ} 0 1 = cc in absurd (omega arith)
-
--- no call yet
-pub none_done : (s : State) (rs : List Seen) → rs ≡ [] → Replied s [] rs s
-none_done s rs e = subst (λ (z : List Seen). Replied s [] z s) (sym e) (record { shown = tt; left = refl })
-
-pub all_done : (s t : State) (calls : List Call) (i : ℕ) (rs : List Seen) → length calls ≤ i → Replied s (take i calls) rs t → Replied s calls rs t
-all_done s t calls i rs le h = subst (λ (z : List Call). Replied s z rs t) (take_all i calls le) h

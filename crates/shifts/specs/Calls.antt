@@ -9,22 +9,22 @@ use Rattle.translator.specs.Work.{worked, entered, afresh, replied, left_by}
 use Rattle.shifts.specs.declared.call.Call.{Call}
 use Rattle.shifts.specs.declared.call.Call.TheVariants.{Block, Entry, Reset, Read, Ask}
 use Rattle.shifts.specs.declared.call.Answer.{Answer}
-use Rattle.shifts.specs.declared.call.Answer.TheVariants.{Replied as Replies, Told, Declined}
+use Rattle.shifts.specs.declared.call.Answer.TheVariants.{Replied as Replies, Told}
 use Rattle.shifts.specs.declared.call.Seen.{Seen}
 
-abbrev pub answer_of : Result Reply Fault → Answer
-answer_of (Ok r) = Replies r
-answer_of (Err f) = Declined f
+abbrev pub answer_of : Result Reply Fault → Result Answer Fault
+answer_of (Ok r) = Ok (Replies r)
+answer_of (Err f) = Err f
 
-abbrev pub told_answer : Result Told' Fault → Answer
-told_answer (Ok t) = Told t
-told_answer (Err f) = Declined f
+abbrev pub told_answer : Result Told' Fault → Result Answer Fault
+told_answer (Ok t) = Ok (Told t)
+told_answer (Err f) = Err f
 
-abbrev pub answer_to : State → Call → Answer
+abbrev pub answer_to : State → Call → Result Answer Fault
 answer_to s (Block bytes) = answer_of (replied (worked s bytes.now))
 answer_to s (Entry frame offset) = answer_of (replied (entered s frame offset))
-answer_to s Reset = Replies (afresh s).reply
-answer_to s Read = Replies (still s.setup)
+answer_to s Reset = Ok (Replies (afresh s).reply)
+answer_to s Read = Ok (Replies (still s.setup))
 answer_to s (Ask q) = told_answer (told_of s.pile q)
 
 -- a declined call and a question leave all as it was

@@ -22,15 +22,14 @@ use Rattle.translator.specs.State.{State, opened, point_of}
 use Rattle.shifts.specs.declared.call.Call.{Call}
 use Rattle.shifts.specs.declared.call.Call.TheVariants.{Block as block, Entry, Reset, Read, Ask}
 use Rattle.shifts.specs.declared.call.Answer.{Answer}
-use Rattle.shifts.specs.declared.call.Answer.TheVariants.{Replied, Told, Declined}
+use Rattle.shifts.specs.declared.call.Answer.TheVariants.{Replied, Told}
 use Rattle.shifts.specs.declared.call.Seen.{Seen}
 use Rattle.shifts.specs.Calls.{left_after}
 use Rattle.shifts.specs.Plain.{Plain, begun, after}
 
-abbrev pub was_declined : Answer → Bool
-was_declined (Replied r) = false
-was_declined (Told t) = false
-was_declined (Declined f) = true
+abbrev pub was_declined : Result Answer Fault → Bool
+was_declined (Ok a) = false
+was_declined (Err f) = true
 
 -- (a) each target is within its told spread of the exact one, whose denominator is above 0, and the held coordinate within half an increment of the target
 pub record Near (increment : Axis → ℕ) (p : Plain) (r : Reading) : Type 0 where
@@ -46,10 +45,10 @@ WithoutMachine (Ok (Limit side values place)) = Unit {0}
 WithoutMachine (Ok (ordinary o)) = o.machine ≡ None
 
 -- (b) where no scale of the chain enlarges, each axis that an accepted block without G53 moved has 2^t × (spread + 11) ≤ 11 × 3^t, t the number of scales and odd turns
-abbrev pub Growth : Plain → Call → Answer → Type 0
-Growth p (block bytes) (Replied r) = WithoutMachine (block_of bytes.now p.inch) → NoneEnlarges p.steps → (a : ℕ) → a < 3 → slice_index_or r.moved a false ≡ true → Grown (weight_of p.steps) (spread_of r.image a)
-Growth p (block bytes) (Told t) = Unit {0}
-Growth p (block bytes) (Declined f) = Unit {0}
+abbrev pub Growth : Plain → Call → Result Answer Fault → Type 0
+Growth p (block bytes) (Ok (Replied r)) = WithoutMachine (block_of bytes.now p.inch) → NoneEnlarges p.steps → (a : ℕ) → a < 3 → slice_index_or r.moved a false ≡ true → Grown (weight_of p.steps) (spread_of r.image a)
+Growth p (block bytes) (Ok (Told t)) = Unit {0}
+Growth p (block bytes) (Err f) = Unit {0}
 Growth p (Entry frame offset) r = Unit {0}
 Growth p Reset r = Unit {0}
 Growth p Read r = Unit {0}
@@ -77,10 +76,9 @@ targets_of s bytes = targets_of_block s (block_of bytes (is_inch s.setup.modes.u
 abbrev pub OutsideSome : Meaning → Point → Type 0
 OutsideSome m t = ((a : Axis) → InsideAll m.boxes a (at t a)) → ⊥
 
-abbrev pub Got15 : Answer → Type 0
-Got15 (Replied r) = ⊥
-Got15 (Told t) = ⊥
-Got15 (Declined f) = (decline_of f).number ≡ 15
+abbrev pub Got15 : Result Answer Fault → Type 0
+Got15 (Ok a) = ⊥
+Got15 (Err f) = (decline_of f).number ≡ 15
 
 -- (c) a block gets 15 exactly where it hands over targets of which one is outside a box, and the end then holds what it held
 pub record Fifteen (s : State) (bytes : List ℕ) (r : Seen) : Type 0 where

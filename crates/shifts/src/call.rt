@@ -14,17 +14,16 @@ pub enum Call<'a> {
     Ask(Question),
 }
 
-/// What a call is answered.
+/// What a call is answered that is not declined.
 #[derive(Clone, Copy)]
 pub enum Answer {
     Replied(Reply),
     Told(Told),
-    Declined(Fault),
 }
 
 /// The answer to a call, and what a reading tells after it.
 #[derive(Clone, Copy)]
 pub struct Seen {
-    pub answer: Answer,
+    pub answer: Result<Answer, Fault>,
     pub reading: Reading,
 }

@@ -1,14 +1,14 @@
 // Working a list of calls over a new translator.
 ghost use Rattle.std.specs.Prelude.{◌≡◌, ◌≤◌, true, List, [], ◌∷◌, ◌++◌, length, is_ok, IfOk, vec_capacity};
 ghost use Rattle.translator.specs.State.{state_of, opened, Tells};
-ghost use Rattle.shifts.specs.Calls.{answer_of, told_answer, answer_to, left_after, Shown, Replied};
+ghost use Rattle.shifts.specs.Calls.{answer_to, left_after, Shown, Replied};
 ghost use Rattle.shifts.specs.Law.{Law};
 
 use crate::call::{Answer, Call, Seen};
 use machine::end::MachineEnd;
-use questions::question::{Told, ask};
+use questions::question::ask;
 use std::alloc::AllocError;
-use translator::reply::{Reading, Reply};
+use translator::reply::Reading;
 use translator::translator::Translator;
 use units::fault::Fault;
 use units::quantity::Tolerance;
@@ -21,34 +21,16 @@ pub struct Worked<E> {
     pub seen: Vec<Seen>,
 }
 
-fn answer_of(reply: Result<Reply, Fault>) -> Answer
-    ensures { result ≡ answer_of reply }
-{
-    match reply {
-        Ok(reply) => Answer::Replied(reply),
-        Err(fault) => Answer::Declined(fault),
-    }
-}
-
-fn told_answer(told: Result<Told, Fault>) -> Answer
-    ensures { result ≡ told_answer told }
-{
-    match told {
-        Ok(told) => Answer::Told(told),
-        Err(fault) => Answer::Declined(fault),
-    }
-}
-
-fn answer<E: MachineEnd>(translator: &mut Translator<E>, call: &Call) -> Answer
+fn answer<E: MachineEnd>(translator: &mut Translator<E>, call: &Call) -> Result<Answer, Fault>
     ensures told { result ≡ answer_to (state_of E.meaning translator.old) call.now }
     ensures left { state_of E.meaning translator.new ≡ left_after (state_of E.meaning translator.old) call.now }
 {
     match call {
-        Call::Block(bytes) => answer_of(translator.block(bytes)),
-        Call::Entry { frame, offset } => answer_of(translator.enter(*frame, *offset)),
-        Call::Reset => Answer::Replied(translator.reset()),
-        Call::Read => Answer::Replied(translator.reply()),
-        Call::Ask(question) => told_answer(ask(translator.pile(), *question)),
+        Call::Block(bytes) => translator.block(bytes).map(Answer::Replied),
+        Call::Entry { frame, offset } => translator.enter(*frame, *offset).map(Answer::Replied),
+        Call::Reset => Ok(Answer::Replied(translator.reset())),
+        Call::Read => Ok(Answer::Replied(translator.reply())),
+        Call::Ask(question) => ask(translator.pile(), *question).map(Answer::Told),
     }
 }
 
@@ -73,11 +55,8 @@ fn work<E: MachineEnd>(
 {
     let mut seen = row;
     seen.clear();
-    for i in 0..calls.len() {
-        let next = make_call(translator, &calls[i]);
-        if seen.push(next).is_err() {
-            return Err(AllocError);
-        }
+    for call in calls {
+        seen.push(make_call(translator, call))?;
     }
     Ok(seen)
 }
@@ -97,12 +76,10 @@ pub fn shift<E: MachineEnd + Drop>(
 {
     let mut translator = Translator::new(end, tolerance);
     let opening = translator.read();
-    match work(&mut translator, calls, row) {
-        Ok(seen) => Ok(Worked {
-            translator,
-            opening,
-            seen,
-        }),
-        Err(error) => Err(error),
-    }
+    let seen = work(&mut translator, calls, row)?;
+    Ok(Worked {
+        translator,
+        opening,
+        seen,
+    })
 }
