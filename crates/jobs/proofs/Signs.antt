@@ -1,5 +1,5 @@
 -- A number that is not negative.
-use Rattle.std.proofs.Common.{◌≡◌, ℕ, ◌<◌, ◌^◌, ℤ, pos, negsuc, unsigned_abs, Ok, Err, Result, Option, sym, ap, ◌∙◌, SFits, w64, arith}
+use Rattle.std.proofs.Common.{◌≡◌, ℕ, ℤ, pos, negsuc, unsigned_abs, Ok, Err, Result, ap, ◌∙◌, SFits, w64, arith}
 use Rattle.std.specs.Result.{OkIff, result_ok}
 use Rattle.std.specs.Option.{option_and_then}
 use Rattle.std.specs.Int.{FitsUnsignedBits}

@@ -16,6 +16,7 @@ pub(crate) struct Job {
 }
 
 /// Whether the lines behind are left, or were worked as a programme text.
+// No bool and no `ControlFlow`: these two names say what is meant.
 #[derive(Clone, Copy, PartialEq, Eq)]
 pub(crate) enum Rest {
     Left,

@@ -86,17 +86,20 @@ impl Job {
         }
     }
 
-    // The end with one area on it.
-    fn work_under_one<E: MachineEnd + Drop>(
+    // The end with room for another area on it; `over` works the lines behind that area.
+    fn work_over<E, F>(
         &mut self,
         mut end: E,
         lines: &[ScriptLine],
-    ) -> Result<Rest, AllocError> {
+        over: F,
+    ) -> Result<Rest, AllocError>
+    where
+        E: MachineEnd + Drop,
+        F: FnOnce(&mut Job, WorkArea<E>, &[ScriptLine]) -> Result<Rest, AllocError> + Drop,
+        requires { F.IsAlwaysCallable over }
+    {
         match self.work_lines(&mut end, lines, true)? {
-            Some((Layer::Area(bounds), rest)) => self.work_under_two(
-                WorkArea::over(bounds, end),
-                rest,
-            ),
+            Some((Layer::Area(bounds), rest)) => over(self, WorkArea::over(bounds, end), rest),
             Some((Layer::Translator(tolerance), rest)) => self.work_shift(end, tolerance, rest),
             None => Ok(Rest::Left),
         }
@@ -105,17 +108,12 @@ impl Job {
     /// Works the lines behind the one that made the end.
     pub(crate) fn work_end<E: MachineEnd + Drop>(
         &mut self,
-        mut end: E,
+        end: E,
         lines: &[ScriptLine],
     ) -> Result<Rest, AllocError> {
         self.report.say("end made")?;
-        match self.work_lines(&mut end, lines, true)? {
-            Some((Layer::Area(bounds), rest)) => self.work_under_one(
-                WorkArea::over(bounds, end),
-                rest,
-            ),
-            Some((Layer::Translator(tolerance), rest)) => self.work_shift(end, tolerance, rest),
-            None => Ok(Rest::Left),
-        }
+        self.work_over(end, lines, |job, end, lines| {
+            job.work_over(end, lines, |job, end, lines| job.work_under_two(end, lines))
+        })
     }
 }

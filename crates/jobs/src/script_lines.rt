@@ -25,6 +25,7 @@ pub fn read_script<'a>(heap: Global, input: &'a [u8]) -> Result<Script<'a>, Allo
     let mut lines = Vec::new(heap);
     let mut rolls = Capacities::default();
     let mut reader = LineReader::new(input);
+    // No `for`: what is behind a line is asked of the reader in between.
     while let Some(line) = reader.next_line() {
         if passed_over(line.bytes) {
             continue;
