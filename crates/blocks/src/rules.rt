@@ -118,10 +118,7 @@ fn place_where<F: FnOnce(Number) -> bool>(word: Option<Measured>, bad: F) -> Opt
     requires { F.IsAlwaysCallable bad }
     ensures { (test : Numbers → Bool) → Tells (F.post bad) test → result ≡ place_if test word }
 {
-    match word {
-        Some(w) => bad(w.number).then_some(w.place),
-        None => None,
-    }
+    word.filter(|w| bad(w.number)).map(|w| w.place)
 }
 
 // What is made of each axis's word, in the order X, Y, Z.

@@ -1,5 +1,5 @@
 // One slot for each address and for each G group.
-ghost use Rattle.std.specs.Prelude.{◌≡◌, true, not, is_some, Some};
+ghost use Rattle.std.specs.Prelude.{◌≡◌, true, false, not, is_some, Some};
 ghost use Rattle.blocks.specs.Slots.{taken_group, put_group, taken_axis, put_axis, full, put_m, taken as taken_in, put as put_in, empty_slots};
 
 use crate::gathered::{Groups, Measured, Ms, Slots};
@@ -10,10 +10,11 @@ use units::axis::{Axis, ByAxis};
 /// How many M words a block may have.
 const M_WORDS: usize = 5;
 
-// Each of these fills a slot and tells whether it was free.
+// Each of these fills a slot and tells whether it was free; where it was not, all stays.
 fn fill<T: Copy>(slot: &mut Option<T>, value: T) -> bool
     ensures free { result ≡ not (is_some slot.old) }
     ensures filled { result ≡ true → slot.new ≡ Some value }
+    ensures kept { result ≡ false → slot.new ≡ slot.old }
 {
     if slot.is_some() {
         return false;
@@ -25,6 +26,7 @@ fn fill<T: Copy>(slot: &mut Option<T>, value: T) -> bool
 fn mark(slot: &mut bool) -> bool
     ensures free { result ≡ not slot.old }
     ensures filled { result ≡ true → slot.new ≡ true }
+    ensures kept { result ≡ false → slot.new ≡ slot.old }
 {
     if *slot {
         return false;
@@ -36,6 +38,7 @@ fn mark(slot: &mut bool) -> bool
 fn put_axis(axes: &mut ByAxis<Option<Measured>>, axis: Axis, measured: Measured) -> bool
     ensures free { result ≡ not (taken_axis axes.old axis) }
     ensures filled { result ≡ true → axes.new ≡ put_axis axes.old axis measured }
+    ensures kept { result ≡ false → axes.new ≡ axes.old }
 {
     match axis {
         Axis::X => fill(&mut axes.x, measured),
@@ -48,6 +51,7 @@ impl Groups {
     fn put(&mut self, function: GFunction, place: usize) -> bool
         ensures free { result ≡ not (taken_group self.old function) }
         ensures filled { result ≡ true → self.new ≡ put_group self.old function place }
+        ensures kept { result ≡ false → self.new ≡ self.old }
     {
         match function {
             GFunction::Motion(motion) => fill(&mut self.selections.motion, motion),
@@ -65,6 +69,7 @@ impl Ms {
     fn put(&mut self, function: MFunction) -> bool
         ensures free { result ≡ not (full self.old) }
         ensures filled { result ≡ true → self.new ≡ put_m self.old function }
+        ensures kept { result ≡ false → self.new ≡ self.old }
     {
         if self.count >= M_WORDS {
             return false;
@@ -84,10 +89,11 @@ impl Slots {
         Slots::default()
     }
 
-    /// Puts a word in its slot; false where an earlier word stands in its way.
+    /// Puts a word in its slot; false where an earlier word stands in its way, and then all stays.
     pub fn put(&mut self, item: Item) -> bool
         ensures free { result ≡ not (taken_in self.old item.says) }
         ensures filled { result ≡ true → self.new ≡ put_in self.old item }
+        ensures kept { result ≡ false → self.new ≡ self.old }
     {
         let place = item.place;
         match item.says {

@@ -14,6 +14,7 @@ pub struct Selections {
 }
 
 /// One step of the programmable frame; what is named for no axis is none.
+// Not a step of the chain: its turn has no plane yet, and a step generic in what turns is no plainer.
 #[derive(Clone, Copy)]
 pub enum FrameStep {
     Offset([Option<Length>; 3]),

@@ -6,6 +6,7 @@ use crate::step::Step;
 pub mod work;
 
 /// At most eight steps, the outermost first.
+// An array with a count: a rule of the project, so that no block fails for want of memory.
 // No model: the view of a `Copy` struct has to give its fields back, and the list of the steps forgets what lies past the count.
 #[derive(Clone, Copy)]
 pub struct Chain {

@@ -1,4 +1,5 @@
 // A table of machine ends: making them, areas, moves and questions at both edges of every range.
+// A program of its own, since one input and output is stored for each.
 #![tactic(auto)]
 
 use jobs::streams::work_input;

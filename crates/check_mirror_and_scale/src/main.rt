@@ -1,4 +1,5 @@
 // A programme with mirrors and a scale, as a manual prints it: its records.
+// A program of its own, since one input and output is stored for each.
 #![tactic(auto)]
 
 use jobs::streams::work_input;

@@ -59,6 +59,7 @@ pub fn odd_spread(i: Coordinate, j: Coordinate) -> u64
 }
 
 /// 1 where the division by 100,000 leaves a remainder.
+// An `if`, which reads no worse than the number of a truth.
 fn rest_of(n: i64) -> u64
     ensures { result ≡ one_if (unsigned_abs n % 100000) }
 {

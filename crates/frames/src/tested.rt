@@ -23,6 +23,7 @@ pub struct Stepped {
 }
 
 impl Tested {
+    // `a < 3` stands at what takes an index; the loops over the axes are by index, a rule of the project.
     pub fn axis(&self, a: usize) -> Coordinate
         requires { a < 3 }
         ensures at { result.at ≡ coordinate self.now.image a }

@@ -64,6 +64,7 @@ impl From<Fault> for Refused {
     }
 }
 
+// Written out, so that `?` ends it at the first that is no length.
 fn lengths(units: [i64; 3]) -> Option<[Length; 3]> {
     Some([
         Length::new(units[0])?,

@@ -16,7 +16,7 @@ use units::fault::Fault;
 /// How many bytes a text may have.
 pub const LONGEST: usize = 65_536;
 
-// Files what a block was answered; both rolls have a place left.
+// Files what a block was answered; both rolls have a place left. They are the caller's, so no struct holds the two.
 fn file(
     reply: Result<Reply, Fault>,
     start: usize,

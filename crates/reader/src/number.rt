@@ -23,6 +23,7 @@ fn read_magnitude(s: &[u8]) -> Result<Magnitude, usize>
     let mut value: u64 = 0;
     let mut digits: usize = 0;
     let mut decimals: usize = 0;
+    // No option of a count in its stead: the count is right with or without a point.
     let mut point = false;
     for (i, b) in s.iter().enumerate() {
         match *b {

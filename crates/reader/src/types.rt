@@ -47,6 +47,7 @@ pub struct Number {
 }
 
 /// What a word says, without its bytes and its place.
+// Beside `Word`, so that what is gathered of a block lends nothing from its bytes.
 #[derive(Clone, Copy)]
 pub enum Said {
     Name(FrameName),
@@ -73,6 +74,7 @@ pub enum Piece<'a> {
 }
 
 /// A word or the comment: what it says, its part of the block, and its place.
+// Each case holds its own part and place: a rule of the project.
 #[derive(Clone, Copy)]
 pub enum Word<'a> {
     Name {

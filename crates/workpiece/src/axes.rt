@@ -15,6 +15,7 @@ pub fn each_axis<A: Copy, B: Copy, C, F: Fn(A, B) -> C>(a: [A; 3], b: [B; 3], of
 }
 
 /// The first axis that has the property.
+// Pushing tests its axes one by one, by a rule of the project; here all three are known.
 pub fn first_of(has: [bool; 3]) -> Option<Axis>
     ensures { result ≡ first_of (slice_index_or has 0 false) (slice_index_or has 1 false) (slice_index_or has 2 false) }
 {

@@ -61,6 +61,7 @@ fn is_far(moved: bool, at: Option<i64>) -> bool
     at.is_some_and(|z| moved && z.unsigned_abs() > Length::MOST)
 }
 
+// A function of its own: the proof of `placed` does not close over the `map`.
 fn values_at(at: [Option<i64>; 3]) -> [Option<Length>; 3]
     ensures { result ≡ values_at at }
 {

@@ -13,6 +13,7 @@ fn written(value: Option<Length>, old: i64) -> i64
     value.map_or(old, |length| length.units)
 }
 
+// By name: a point has no index.
 fn written_over(values: [Option<Length>; 3], old: Point) -> Point
     ensures { result ≡ written_over values old }
 {

@@ -11,7 +11,7 @@ use chains::step::Step;
 use units::axis::Plane;
 use units::fault::Fault;
 
-// A programmed step in the plane that is in force.
+// A programmed step in the plane that is in force; no `From`, since it takes the plane.
 fn step_in(plane: Plane, step: FrameStep) -> Step
     ensures { result ≡ step_in plane step }
 {
