@@ -139,7 +139,7 @@ def rust(step):
 
 def answer(told):
     if told[0] == 0:
-        return f"Ok(Pushed {{ at: {listed(told[1:4])}, spread: {listed(told[4:])} }})"
+        return f"Ok(Image {{ at: {listed(told[1:4])}, spread: {listed(told[4:])} }})"
     return "Err(Refused { number: %d, axis: %d, step: %d })" % tuple(told[:3])
 
 
@@ -225,7 +225,8 @@ for _ in range(16):
     case(steps, [rnd.randint(-END, END) for _ in range(3)], offset=[rnd.randint(-10**7, 10**7) for _ in range(3)], tolerance=rnd.choice([20, 100_000]))
 
 print("// Cases with the answers worked out by tools/frames_cases.py, with fractions.")
-print("use crate::{Case, Pushed, Raw, Refused};")
+print("use crate::{Case, Raw, Refused};")
+print("use frames::image::Image;")
 print("use units::axis::Plane;\n")
 print("pub static CASES: &[Case] = &[")
 print("\n".join(ROWS))

@@ -117,8 +117,8 @@ lesser (Some p) None = Some p
 lesser (Some p) (Some q) = Some (cond (nat_lt q p) q p)
 
 -- what a function tells is what the definition does
-abbrev pub Tells : {A B : Type 0} → (A → B → Type 0) → (A → B) → Type 0
-Tells {A} {B} post f = (x : A) (y : B) → post x y → y ≡ f x
+abbrev pub Tests : {A B : Type 0} → (A → B → Type 0) → (A → B) → Type 0
+Tests {A} {B} post f = (x : A) (y : B) → post x y → y ≡ f x
 
 abbrev pub place_if : (Number → Bool) → Option Measured → Option ℕ
 place_if test None = None

@@ -37,6 +37,7 @@ fn gather(bytes: &[u8], g: &mut Gathered) -> Result<(), Fault>
 }
 
 /// The typed block, or the first of its faults: 1 to 8. `inch` tells whether inches are in force before the block.
+// A bool, not a unit: inches or not is all that the rules ask.
 pub fn typed_block(bytes: &[u8], inch: bool) -> Result<Block, Fault>
     ensures { result ≡ block_of bytes.now inch }
 {

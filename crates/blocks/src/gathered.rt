@@ -27,6 +27,7 @@ pub struct Ms {
 
 /// A place for each address and for each G group. `names` and `passed` tell which frame names and which of F, S, T and
 /// D stand in the block, in the order of their types.
+// Flags by the number of an enum's case: a set would need the heap.
 #[derive(Clone, Copy, Default)]
 pub struct Slots {
     pub names: [bool; 8],

@@ -19,6 +19,7 @@ const ANGLE_DECIMALS: usize = 4;
 // Units in a ten-thousandth of an inch.
 const INCH_UNITS: i64 = 254;
 
+// A table, not `pow`: one is looked up for each number of a block.
 fn power(k: usize) -> i64
     requires { k ≤ 5 }
     ensures { result ≡ pos (10 ^ k) }

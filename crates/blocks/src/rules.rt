@@ -1,6 +1,6 @@
 // The rules over a whole block, 6, 7 and 8, and what a right block says.
 ghost use Rattle.std.specs.Prelude.{◌≡◌, None, Bool, Option, [], ◌∷◌};
-ghost use Rattle.blocks.specs.Rules.{misplaced_in, unfit_with, unfit_by, unfit_in, inch_under, measure_by, measure_under, bad_axis, bad_rpl, lesser, place_if, out_of_range_in, Tells};
+ghost use Rattle.blocks.specs.Rules.{misplaced_in, unfit_with, unfit_by, unfit_in, inch_under, measure_by, measure_under, bad_axis, bad_rpl, lesser, place_if, out_of_range_in, Tests};
 ghost use Rattle.reader.specs.declared.types.Number.{Number as Numbers};
 ghost use Rattle.blocks.specs.declared.gathered.Measured.{Measured as Words};
 ghost use Rattle.blocks.specs.Typed.{length_at, factor_at, angle_at, each, lengths as lengths_of, step_of, change_by, made_by, made_under, ruled, judged_in, lacking_in};
@@ -53,8 +53,8 @@ fn unfit_place(o: &Order, rpl: Option<Measured>) -> Option<usize>
     }
 }
 
-// G70 or G71 of the block itself, else what is in force.
-fn in_inches(inch: bool, unit: Option<LengthUnit>) -> bool
+/// Whether inches are in force: by G70 or G71 of the block itself, else as before.
+pub fn in_inches(inch: bool, unit: Option<LengthUnit>) -> bool
     ensures { result ≡ inch_under inch unit }
 {
     unit.map_or(inch, |unit| unit == LengthUnit::Inch)
@@ -116,12 +116,12 @@ fn lesser_place(a: Option<usize>, b: Option<usize>) -> Option<usize>
 // Where a word's number is bad.
 fn place_where<F: FnOnce(Number) -> bool>(word: Option<Measured>, bad: F) -> Option<usize>
     requires { F.IsAlwaysCallable bad }
-    ensures { (test : Numbers → Bool) → Tells (F.post bad) test → result ≡ place_if test word }
+    ensures { (test : Numbers → Bool) → Tests (F.post bad) test → result ≡ place_if test word }
 {
     word.filter(|w| bad(w.number)).map(|w| w.place)
 }
 
-// What is made of each axis's word, in the order X, Y, Z.
+// What is made of each axis's word, in the order X, Y, Z, in which arrays go on.
 fn each<V, F: Fn(Option<Measured>) -> V>(words: &ByAxis<Option<Measured>>, make: F) -> [V; 3]
     requires { F.IsAlwaysCallable make }
     ensures { (x y z : V) × F.post make words.now.x x × F.post make words.now.y y × F.post make words.now.z z × (result ≡ x ∷ y ∷ z ∷ []) }
@@ -150,6 +150,7 @@ fn factor_at(word: Option<Measured>) -> Option<Factor>
     word.and_then(|w| factor(w.number))
 }
 
+// A bare ROT empties the chain, whatever angle stands here.
 fn angle_at(word: Option<Measured>) -> Angle
     ensures { result ≡ angle_at word }
 {
@@ -207,7 +208,7 @@ fn instructed(i: Placed, inch: bool, g: &Gathered) -> Block
     }
 }
 
-// The leftmost word whose number made no length.
+// The leftmost word whose number made no length. Its values are there already, so it is no `out_of_range`.
 fn lacking_place(a: &ByAxis<Option<Measured>>, values: [Option<Length>; 3]) -> Option<usize>
     ensures { result ≡ lacking_in a.now values }
 {

@@ -1,4 +1,4 @@
-// The axes of a plane, by index: X 0, Y 1, Z 2. An `Axis` would be no plainer: all that is done with them is to index arrays of three.
+// The axes of a plane, by index: X 0, Y 1, Z 2. An `Axis` would be no plainer: all that is done with them is to index arrays of three and to compare.
 ghost use Rattle.std.specs.Prelude.{◌≡◌, ℕ, ◌<◌};
 ghost use Rattle.chains.specs.Steps.{first_of, second_of};
 

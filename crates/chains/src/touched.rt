@@ -7,6 +7,7 @@ use crate::chain::Chain;
 use crate::plane::{first_axis, second_axis};
 use crate::step::Step;
 
+// Axes by index, as in plane.rt.
 impl Step {
     fn touches(self, a: usize) -> bool
         requires { a < 3 }

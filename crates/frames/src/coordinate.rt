@@ -6,6 +6,7 @@ use crate::round::scaled;
 use units::quantity::{Factor, Length};
 
 /// Coordinate and spread, within the range that the tests leave.
+// Before the tests they are a pair: nothing is known of them that a struct could hold.
 #[derive(Clone, Copy)]
 pub struct Coordinate {
     pub at: i64,

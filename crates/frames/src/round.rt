@@ -59,15 +59,10 @@ pub fn odd_spread(i: Coordinate, j: Coordinate) -> u64
 }
 
 /// 1 where the division by 100,000 leaves a remainder.
-// An `if`, which reads no worse than the number of a truth.
 fn rest_of(n: i64) -> u64
     ensures { result ≡ one_if (unsigned_abs n % 100000) }
 {
-    if n.unsigned_abs() % 100_000 == 0 {
-        0
-    } else {
-        1
-    }
+    u64::from(n.unsigned_abs() % 100_000 != 0)
 }
 
 /// f × coordinate / 100,000, rounded, and what that makes of the spread.

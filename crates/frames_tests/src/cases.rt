@@ -1,5 +1,6 @@
 // Cases with the answers worked out by tools/frames_cases.py, with fractions.
-use crate::{Case, Pushed, Raw, Refused};
+use crate::{Case, Raw, Refused};
+use frames::image::Image;
 use units::axis::Plane;
 
 pub static CASES: &[Case] = &[
@@ -9,7 +10,7 @@ pub static CASES: &[Case] = &[
         values: [999999999, -999999999, 5],
         offset: [0, 0, 0],
         tolerance: 100000,
-        told: Ok(Pushed {
+        told: Ok(Image {
             at: [1000001744, -999998254, 5],
             spread: [3, 3, 0],
         }),
@@ -20,7 +21,7 @@ pub static CASES: &[Case] = &[
         values: [999999999, 999999999, 0],
         offset: [0, 0, 0],
         tolerance: 100000,
-        told: Ok(Pushed {
+        told: Ok(Image {
             at: [2468, 1414213561, 0],
             spread: [3, 3, 0],
         }),
@@ -31,7 +32,7 @@ pub static CASES: &[Case] = &[
         values: [10000000, -3, 7],
         offset: [0, 0, 0],
         tolerance: 100000,
-        told: Ok(Pushed {
+        told: Ok(Image {
             at: [7071070, 7071066, 7],
             spread: [2, 2, 0],
         }),
@@ -42,7 +43,7 @@ pub static CASES: &[Case] = &[
         values: [-999999999, 999999999, 0],
         offset: [0, 0, 0],
         tolerance: 100000,
-        told: Ok(Pushed {
+        told: Ok(Image {
             at: [-1414213561, -2468, 0],
             spread: [3, 3, 0],
         }),
@@ -53,7 +54,7 @@ pub static CASES: &[Case] = &[
         values: [-999999999, -999999999, 1],
         offset: [0, 0, 0],
         tolerance: 100000,
-        told: Ok(Pushed {
+        told: Ok(Image {
             at: [999998254, -1000001744, 1],
             spread: [3, 3, 0],
         }),
@@ -64,7 +65,7 @@ pub static CASES: &[Case] = &[
         values: [123456789, 987654321, 0],
         offset: [0, 0, 0],
         tolerance: 100000,
-        told: Ok(Pushed {
+        told: Ok(Image {
             at: [-987654536, 123455066, 0],
             spread: [3, 3, 0],
         }),
@@ -75,7 +76,7 @@ pub static CASES: &[Case] = &[
         values: [999999999, -1, 0],
         offset: [0, 0, 0],
         tolerance: 100000,
-        told: Ok(Pushed {
+        told: Ok(Image {
             at: [-551306636, 834302698, 0],
             spread: [2, 2, 0],
         }),
@@ -86,7 +87,7 @@ pub static CASES: &[Case] = &[
         values: [0, 0, 0],
         offset: [0, 0, 0],
         tolerance: 100000,
-        told: Ok(Pushed {
+        told: Ok(Image {
             at: [0, 0, 0],
             spread: [1, 1, 0],
         }),
@@ -97,7 +98,7 @@ pub static CASES: &[Case] = &[
         values: [-77, 77, 0],
         offset: [0, 0, 0],
         tolerance: 100000,
-        told: Ok(Pushed {
+        told: Ok(Image {
             at: [99, -46, 0],
             spread: [2, 2, 0],
         }),
@@ -108,7 +109,7 @@ pub static CASES: &[Case] = &[
         values: [1, 999999999, 0],
         offset: [0, 0, 0],
         tolerance: 100000,
-        told: Ok(Pushed {
+        told: Ok(Image {
             at: [999999999, -1746, 0],
             spread: [2, 2, 0],
         }),
@@ -119,7 +120,7 @@ pub static CASES: &[Case] = &[
         values: [999999999, 999999999, 999999999],
         offset: [0, 0, 0],
         tolerance: 100000,
-        told: Ok(Pushed {
+        told: Ok(Image {
             at: [1000001744, -999998254, 999999999],
             spread: [3, 3, 0],
         }),
@@ -130,7 +131,7 @@ pub static CASES: &[Case] = &[
         values: [-999999999, 999999999, 0],
         offset: [0, 0, 0],
         tolerance: 100000,
-        told: Ok(Pushed {
+        told: Ok(Image {
             at: [-999998254, 1000001744, 0],
             spread: [3, 3, 0],
         }),
@@ -141,7 +142,7 @@ pub static CASES: &[Case] = &[
         values: [10000000, 0, 0],
         offset: [0, 0, 0],
         tolerance: 100000,
-        told: Ok(Pushed {
+        told: Ok(Image {
             at: [8660254, 0, -5000000],
             spread: [2, 0, 2],
         }),
@@ -152,7 +153,7 @@ pub static CASES: &[Case] = &[
         values: [999999999, 4, -999999999],
         offset: [0, 0, 0],
         tolerance: 100000,
-        told: Ok(Pushed {
+        told: Ok(Image {
             at: [-752000291, 4, -1197704287],
             spread: [3, 0, 3],
         }),
@@ -163,7 +164,7 @@ pub static CASES: &[Case] = &[
         values: [-999999999, 9, 999999999],
         offset: [0, 0, 0],
         tolerance: 100000,
-        told: Ok(Pushed {
+        told: Ok(Image {
             at: [1414213561, 9, 0],
             spread: [3, 0, 3],
         }),
@@ -174,7 +175,7 @@ pub static CASES: &[Case] = &[
         values: [1, 2, 3],
         offset: [0, 0, 0],
         tolerance: 100000,
-        told: Ok(Pushed {
+        told: Ok(Image {
             at: [-3, 2, -2],
             spread: [2, 0, 2],
         }),
@@ -185,7 +186,7 @@ pub static CASES: &[Case] = &[
         values: [-987654321, 0, 123456789],
         offset: [0, 0, 0],
         tolerance: 100000,
-        told: Ok(Pushed {
+        told: Ok(Image {
             at: [-600745261, 0, -793604289],
             spread: [3, 0, 3],
         }),
@@ -196,7 +197,7 @@ pub static CASES: &[Case] = &[
         values: [999999999, 0, 999999999],
         offset: [0, 0, 0],
         tolerance: 100000,
-        told: Ok(Pushed {
+        told: Ok(Image {
             at: [999996508, 0, 1000003490],
             spread: [3, 0, 3],
         }),
@@ -207,7 +208,7 @@ pub static CASES: &[Case] = &[
         values: [8, 10000000, 20000000],
         offset: [0, 0, 0],
         tolerance: 100000,
-        told: Ok(Pushed {
+        told: Ok(Image {
             at: [8, 6375114, 21432637],
             spread: [0, 2, 2],
         }),
@@ -218,7 +219,7 @@ pub static CASES: &[Case] = &[
         values: [0, -999999999, 999999999],
         offset: [0, 0, 0],
         tolerance: 100000,
-        told: Ok(Pushed {
+        told: Ok(Image {
             at: [0, -1314296479, -522134811],
             spread: [0, 3, 3],
         }),
@@ -229,7 +230,7 @@ pub static CASES: &[Case] = &[
         values: [0, 999999999, -999999999],
         offset: [0, 0, 0],
         tolerance: 100000,
-        told: Ok(Pushed {
+        told: Ok(Image {
             at: [0, 811159574, 1158455930],
             spread: [0, 3, 3],
         }),
@@ -240,7 +241,7 @@ pub static CASES: &[Case] = &[
         values: [0, 555555555, -444444444],
         offset: [0, 0, 0],
         tolerance: 100000,
-        told: Ok(Pushed {
+        told: Ok(Image {
             at: [0, -684211593, -195005983],
             spread: [0, 2, 2],
         }),
@@ -251,7 +252,7 @@ pub static CASES: &[Case] = &[
         values: [3, -2, 1],
         offset: [0, 0, 0],
         tolerance: 100000,
-        told: Ok(Pushed {
+        told: Ok(Image {
             at: [3, 0, 2],
             spread: [0, 2, 2],
         }),
@@ -262,7 +263,7 @@ pub static CASES: &[Case] = &[
         values: [0, 999999999, 999999999],
         offset: [0, 0, 0],
         tolerance: 100000,
-        told: Ok(Pushed {
+        told: Ok(Image {
             at: [0, 1414061290, -20752455],
             spread: [0, 3, 3],
         }),
@@ -276,7 +277,7 @@ pub static CASES: &[Case] = &[
         values: [7, 11, 13],
         offset: [0, 0, 0],
         tolerance: 100000,
-        told: Ok(Pushed {
+        told: Ok(Image {
             at: [-11, 2, 13],
             spread: [0, 1, 0],
         }),
@@ -290,7 +291,7 @@ pub static CASES: &[Case] = &[
         values: [7, 11, 13],
         offset: [0, 0, 0],
         tolerance: 100000,
-        told: Ok(Pushed {
+        told: Ok(Image {
             at: [13, 11, -2],
             spread: [0, 0, 1],
         }),
@@ -304,7 +305,7 @@ pub static CASES: &[Case] = &[
         values: [7, 11, 13],
         offset: [0, 0, 0],
         tolerance: 100000,
-        told: Ok(Pushed {
+        told: Ok(Image {
             at: [7, 13, -11],
             spread: [0, 0, 1],
         }),
@@ -315,7 +316,7 @@ pub static CASES: &[Case] = &[
         values: [7, -11, 13],
         offset: [1, 2, 3],
         tolerance: 100000,
-        told: Ok(Pushed {
+        told: Ok(Image {
             at: [-6, 13, 16],
             spread: [0, 0, 0],
         }),
@@ -326,7 +327,7 @@ pub static CASES: &[Case] = &[
         values: [7, -11, 13],
         offset: [0, 0, 0],
         tolerance: 100000,
-        told: Ok(Pushed {
+        told: Ok(Image {
             at: [7, -11, 13],
             spread: [0, 0, 0],
         }),
@@ -337,7 +338,7 @@ pub static CASES: &[Case] = &[
         values: [5, -5, 4],
         offset: [0, 0, 0],
         tolerance: 100000,
-        told: Ok(Pushed {
+        told: Ok(Image {
             at: [3, -3, 2],
             spread: [1, 1, 0],
         }),
@@ -348,7 +349,7 @@ pub static CASES: &[Case] = &[
         values: [999999999, 19999999, -999999999],
         offset: [0, 0, 0],
         tolerance: 100000,
-        told: Ok(Pushed {
+        told: Ok(Image {
             at: [10000, 1999999900, -999999999],
             spread: [1, 0, 0],
         }),
@@ -362,7 +363,7 @@ pub static CASES: &[Case] = &[
         values: [10000000, 0, 50000],
         offset: [0, 0, 0],
         tolerance: 100000,
-        told: Ok(Pushed {
+        told: Ok(Image {
             at: [21650635, 12500000, 1],
             spread: [5, 5, 1],
         }),
@@ -376,7 +377,7 @@ pub static CASES: &[Case] = &[
         values: [50, 51, -52],
         offset: [0, 0, 0],
         tolerance: 100000,
-        told: Ok(Pushed {
+        told: Ok(Image {
             at: [11, 77, -17],
             spread: [2, 1, 1],
         }),
@@ -390,7 +391,7 @@ pub static CASES: &[Case] = &[
         values: [0, 0, 0],
         offset: [0, 0, 0],
         tolerance: 100000,
-        told: Ok(Pushed {
+        told: Ok(Image {
             at: [2000000, 1000000, 0],
             spread: [0, 0, 0],
         }),
@@ -404,7 +405,7 @@ pub static CASES: &[Case] = &[
         values: [0, 0, 0],
         offset: [0, 0, 0],
         tolerance: 100000,
-        told: Ok(Pushed {
+        told: Ok(Image {
             at: [1000000, 500000, 0],
             spread: [0, 0, 0],
         }),
@@ -419,7 +420,7 @@ pub static CASES: &[Case] = &[
         values: [1, 2, 3],
         offset: [0, 0, 0],
         tolerance: 100000,
-        told: Ok(Pushed {
+        told: Ok(Image {
             at: [-4, 3, -3],
             spread: [0, 0, 0],
         }),
@@ -438,7 +439,7 @@ pub static CASES: &[Case] = &[
         values: [1000000, 0, 0],
         offset: [0, 0, 0],
         tolerance: 100000,
-        told: Ok(Pushed {
+        told: Ok(Image {
             at: [6000000, 0, 0],
             spread: [0, 0, 0],
         }),
@@ -449,7 +450,7 @@ pub static CASES: &[Case] = &[
         values: [10000000, 0, 0],
         offset: [10000000, 5000000, 0],
         tolerance: 100000,
-        told: Ok(Pushed {
+        told: Ok(Image {
             at: [17500000, 9330127, -5000000],
             spread: [5, 5, 2],
         }),
@@ -464,7 +465,7 @@ pub static CASES: &[Case] = &[
         values: [10000000, 0, 0],
         offset: [0, 0, 0],
         tolerance: 100000,
-        told: Ok(Pushed {
+        told: Ok(Image {
             at: [-10000000, 0, 0],
             spread: [5, 5, 0],
         }),
@@ -475,7 +476,7 @@ pub static CASES: &[Case] = &[
         values: [5, 5, 5],
         offset: [0, 0, 0],
         tolerance: 100000,
-        told: Ok(Pushed {
+        told: Ok(Image {
             at: [2, 5, 5],
             spread: [1, 0, 0],
         }),
@@ -486,7 +487,7 @@ pub static CASES: &[Case] = &[
         values: [5, 6, 999999999],
         offset: [9, 9, 9],
         tolerance: 100000,
-        told: Ok(Pushed {
+        told: Ok(Image {
             at: [5, 3, 999999999],
             spread: [0, 0, 0],
         }),
@@ -584,7 +585,7 @@ pub static CASES: &[Case] = &[
         values: [999999999, 999999999, 999999999],
         offset: [999999999, 2, -999999999],
         tolerance: 100000,
-        told: Ok(Pushed {
+        told: Ok(Image {
             at: [1999999998, 2000000000, 999999999],
             spread: [0, 0, 0],
         }),
@@ -610,7 +611,7 @@ pub static CASES: &[Case] = &[
         values: [999999999, -999999999, 0],
         offset: [999999999, -999999999, 0],
         tolerance: 100000,
-        told: Ok(Pushed {
+        told: Ok(Image {
             at: [1999999998, -1999999998, 0],
             spread: [0, 0, 0],
         }),
@@ -628,7 +629,7 @@ pub static CASES: &[Case] = &[
         values: [738981537, 484385996, 17469137],
         offset: [-8239070, -7389523, 4268664],
         tolerance: 100000,
-        told: Ok(Pushed {
+        told: Ok(Image {
             at: [-753553844, -603391459, 37728350],
             spread: [16, 6, 11],
         }),
@@ -644,7 +645,7 @@ pub static CASES: &[Case] = &[
         values: [-702896099, -95149488, 111006174],
         offset: [-3378427, -3737199, 9631765],
         tolerance: 100000,
-        told: Ok(Pushed {
+        told: Ok(Image {
             at: [980129299, 34205655, -118157907],
             spread: [2, 5, 5],
         }),
@@ -661,7 +662,7 @@ pub static CASES: &[Case] = &[
         values: [852454191, 763479405, -466498235],
         offset: [-7159161, -8640230, 1514974],
         tolerance: 20,
-        told: Ok(Pushed {
+        told: Ok(Image {
             at: [-1172148632, -738624600, 1039950205],
             spread: [1, 5, 5],
         }),
@@ -678,7 +679,7 @@ pub static CASES: &[Case] = &[
         values: [956222097, -329394212, -890355870],
         offset: [457511, 3100755, 3018030],
         tolerance: 20,
-        told: Ok(Pushed {
+        told: Ok(Image {
             at: [-936686421, 800699185, -141306165],
             spread: [6, 2, 6],
         }),
@@ -695,7 +696,7 @@ pub static CASES: &[Case] = &[
         values: [-430874402, 949488066, 470756440],
         offset: [1012893, 4121731, 7354039],
         tolerance: 100000,
-        told: Ok(Pushed {
+        told: Ok(Image {
             at: [-429861509, 518713683, 100360125],
             spread: [0, 4, 4],
         }),
@@ -729,7 +730,7 @@ pub static CASES: &[Case] = &[
         values: [-876090404, -308909524, 235276726],
         offset: [4751634, -8984331, -8191202],
         tolerance: 100000,
-        told: Ok(Pushed {
+        told: Ok(Image {
             at: [64586086, -317893855, 896965896],
             spread: [3, 0, 3],
         }),
@@ -746,7 +747,7 @@ pub static CASES: &[Case] = &[
         values: [-67663603, 344306136, -191853988],
         offset: [-7905350, -6288061, -703902],
         tolerance: 20,
-        told: Ok(Pushed {
+        told: Ok(Image {
             at: [696028803, 60968243, 290093025],
             spread: [2, 2, 1],
         }),
@@ -766,7 +767,7 @@ pub static CASES: &[Case] = &[
         values: [-3300223, -344863603, -519829115],
         offset: [6649570, 9783227, -5311082],
         tolerance: 100000,
-        told: Ok(Pushed {
+        told: Ok(Image {
             at: [183508722, -892420652, 97294007],
             spread: [1, 6, 6],
         }),
@@ -783,7 +784,7 @@ pub static CASES: &[Case] = &[
         values: [-372095320, -902080174, -862186516],
         offset: [-5898211, 251232, 4900955],
         tolerance: 20,
-        told: Ok(Pushed {
+        told: Ok(Image {
             at: [-199928759, 902331406, 923689648],
             spread: [3, 0, 3],
         }),
@@ -798,7 +799,7 @@ pub static CASES: &[Case] = &[
         values: [-106429116, -838713026, -438165915],
         offset: [7495667, 203874, 1132867],
         tolerance: 100000,
-        told: Ok(Pushed {
+        told: Ok(Image {
             at: [-169895542, 838916900, 415679469],
             spread: [2, 0, 2],
         }),
@@ -813,7 +814,7 @@ pub static CASES: &[Case] = &[
         values: [172780719, -255550016, 780000071],
         offset: [9017536, -6202965, -8236518],
         tolerance: 100000,
-        told: Ok(Pushed {
+        told: Ok(Image {
             at: [-82402775, -268439430, -1226654286],
             spread: [0, 0, 1],
         }),
@@ -833,7 +834,7 @@ pub static CASES: &[Case] = &[
         values: [-390955171, -316543820, 777787110],
         offset: [8567747, 3346987, -6404518],
         tolerance: 100000,
-        told: Ok(Pushed {
+        told: Ok(Image {
             at: [-388340289, -654965698, -17881795],
             spread: [0, 1, 0],
         }),
@@ -849,7 +850,7 @@ pub static CASES: &[Case] = &[
         values: [-73134547, -729225790, -788517891],
         offset: [-913292, -9858878, -1456378],
         tolerance: 20,
-        told: Ok(Pushed {
+        told: Ok(Image {
             at: [-302279138, 1450946236, 1017446648],
             spread: [3, 3, 0],
         }),
@@ -865,7 +866,7 @@ pub static CASES: &[Case] = &[
         values: [-569450358, -620289495, 482999638],
         offset: [1799378, -1455485, -7394695],
         tolerance: 100000,
-        told: Ok(Pushed {
+        told: Ok(Image {
             at: [-1090264046, 529549769, -783658126],
             spread: [1, 3, 6],
         }),
@@ -880,7 +881,7 @@ pub static CASES: &[Case] = &[
         values: [999317070, 502938830, 5427273],
         offset: [3914859, 8015192, 7929780],
         tolerance: 20,
-        told: Ok(Pushed {
+        told: Ok(Image {
             at: [9342132, -494923638, -991387290],
             spread: [0, 0, 0],
         }),

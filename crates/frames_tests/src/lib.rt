@@ -29,21 +29,7 @@ pub struct Case {
     pub values: [i64; 3],
     pub offset: [i64; 3],
     pub tolerance: u64,
-    pub told: Result<Pushed, Refused>,
-}
-
-#[derive(Clone, Copy, PartialEq, Eq, Debug)]
-pub struct Pushed {
-    pub at: [i64; 3],
-    pub spread: [u64; 3],
-}
-
-impl From<Image> for Pushed {
-    fn from(image: Image) -> Self {
-        let at = image.at;
-        let spread = image.spread;
-        Pushed { at, spread }
-    }
+    pub told: Result<Image, Refused>,
 }
 
 #[derive(Clone, Copy, PartialEq, Eq, Debug)]
@@ -93,16 +79,12 @@ pub fn chain(steps: &[Raw]) -> Option<Chain> {
 }
 
 /// What the case comes to; none where one of its numbers is out of its range.
-pub fn told(case: &Case) -> Option<Result<Pushed, Refused>> {
+pub fn told(case: &Case) -> Option<Result<Image, Refused>> {
     let steps = chain(case.steps)?;
     let values = lengths(case.values)?;
     let offset = lengths(case.offset)?;
     let tolerance = Tolerance::new(case.tolerance)?;
-    Some(
-        push(&steps, case.moved, values, offset, tolerance)
-            .map(Pushed::from)
-            .map_err(Refused::from),
-    )
+    Some(push(&steps, case.moved, values, offset, tolerance).map_err(Refused::from))
 }
 
 /// Cosine and sine of so many ticks.

@@ -4,7 +4,8 @@ use frames::image::Image;
 use questions::question::Told;
 use std::fmt;
 use translator::reply::{Reading, Reply};
-use units::fault::Fault;
+use units::axis::Point;
+use units::fault::{Decline, Fault};
 use units::quantity::{Factor, Length};
 
 /// A declined call.
@@ -13,13 +14,14 @@ pub struct Declined(pub Fault);
 
 impl fmt::Display for Declined {
     fn fmt<W: fmt::Write>(&self, f: &mut fmt::Formatter<W>) -> fmt::Result {
-        let d = self.0.decline();
-        let layer = d.layer;
-        let number = d.number;
-        let place = d.place;
-        let axis = d.axis;
-        let step = d.step;
-        let level = d.level;
+        let Decline {
+            number,
+            layer,
+            place,
+            axis,
+            step,
+            level,
+        } = self.0.decline();
         write!(
             f,
             "declined {number} at {place} axis {axis} step {step} level {level} layer {layer}"
@@ -29,7 +31,7 @@ impl fmt::Display for Declined {
 
 /// What is said of the block that begins at a byte of its text.
 #[derive(Clone, Copy, Drop)]
-pub struct AtByte<D> {
+pub(crate) struct AtByte<D> {
     pub start: usize,
     pub said: D,
 }
@@ -73,7 +75,7 @@ impl fmt::Display for Tells {
 
 /// Three targets with their spreads.
 #[derive(Clone, Copy)]
-pub struct Targets(pub Image);
+pub(crate) struct Targets(pub Image);
 
 impl fmt::Display for Targets {
     fn fmt<W: fmt::Write>(&self, f: &mut fmt::Formatter<W>) -> fmt::Result {
@@ -85,7 +87,7 @@ impl fmt::Display for Targets {
 
 /// The letters of some axes, each after a text.
 #[derive(Clone, Copy)]
-pub struct Letters {
+pub(crate) struct Letters {
     pub axes: [bool; 3],
     pub before: &'static str,
 }
@@ -125,10 +127,7 @@ pub struct State(pub Reading);
 impl fmt::Display for State {
     fn fmt<W: fmt::Write>(&self, f: &mut fmt::Formatter<W>) -> fmt::Result {
         let targets = Targets(self.0.image);
-        let held = self.0.held;
-        let x = held.x;
-        let y = held.y;
-        let z = held.z;
+        let Point { x, y, z } = self.0.held;
         let count = self.0.chain.count;
         write!(f, "state {targets} held {x} {y} {z} chain {count}")
     }
@@ -136,7 +135,7 @@ impl fmt::Display for State {
 
 /// The values of the named axes, each after a space and its letter.
 #[derive(Clone, Copy)]
-pub struct Values([Option<i64>; 3]);
+pub(crate) struct Values([Option<i64>; 3]);
 
 impl From<[Option<Length>; 3]> for Values {
     fn from(lengths: [Option<Length>; 3]) -> Values {

@@ -6,7 +6,8 @@ use crate::answers::{AtByte, Declined};
 use crate::report::Report;
 use crate::says::Says;
 use blocks::block::typed_block;
-use blocks::types::{Block, LengthUnit};
+use blocks::rules::in_inches;
+use blocks::types::Block;
 use lines::reader::LineReader;
 use programmes::work::LONGEST;
 use std::alloc::AllocError;
@@ -67,10 +68,7 @@ fn inch_after(block: Result<Block, Fault>, inch: bool) -> bool
     ensures { result ≡ inch_after block inch }
 {
     match block {
-        Ok(Block::Ordinary(ordinary)) => ordinary
-            .selections
-            .unit
-            .map_or(inch, |unit| unit == LengthUnit::Inch),
+        Ok(Block::Ordinary(ordinary)) => in_inches(inch, ordinary.selections.unit),
         _ => inch,
     }
 }

@@ -42,6 +42,7 @@ fn increment(units: i64) -> Result<u32, Fault>
     u32::try_from(units).map_err(|_| Fault::Argument)
 }
 
+// By name: `?` ends it at the first that is out of range.
 fn increments(units: Point) -> Result<Increments, Fault>
     ensures { AllFitting units result }
 {
@@ -82,6 +83,7 @@ pub fn end_call(call: Option<Call>) -> Option<Result<MadeEnd, Fault>>
 }
 
 /// The call of a shift that a line makes; none where it is another call.
+// Case by case: a script is read without the translator, so its calls can hold none of a shift.
 pub fn shift_call(call: Option<Call<'_>>) -> Option<ShiftCall<'_>>
     ensures { result ≡ shift_call_of call.entry }
 {

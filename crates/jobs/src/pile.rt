@@ -74,7 +74,7 @@ impl Job {
         Ok(None)
     }
 
-    // The end with two areas on it.
+    // The end with two areas on it: no third may come, so nothing is worked over it.
     fn work_under_two<E: MachineEnd + Drop>(
         &mut self,
         mut end: E,

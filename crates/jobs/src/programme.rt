@@ -9,6 +9,7 @@ use programmes::work::work_text;
 use rolls::roll::Roll;
 use script::call::Capacities;
 use std::alloc::AllocError;
+use std::fmt;
 use translator::translator::Translator;
 use units::fault::Fault;
 
@@ -18,18 +19,8 @@ fn room(capacity: u64, text: &[u8]) -> usize {
 }
 
 impl Report {
-    fn say_move(&mut self, record: &MoveRecord) -> Result<(), AllocError> {
-        self.say(AtByte {
-            start: record.start,
-            said: Targets(record.told),
-        })
-    }
-
-    fn say_decline(&mut self, record: &DeclineRecord) -> Result<(), AllocError> {
-        self.say(AtByte {
-            start: record.start,
-            said: Declined(record.told),
-        })
+    fn say_at<D: fmt::Display + Drop>(&mut self, start: usize, said: D) -> Result<(), AllocError> {
+        self.say(AtByte { start, said })
     }
 
     // Both rolls in the order of their blocks.
@@ -41,12 +32,12 @@ impl Report {
         let mut declines = declines.iter().peekable();
         for m in moves {
             while let Some(d) = declines.next_if(|d| d.start < m.start) {
-                self.say_decline(d)?;
+                self.say_at(d.start, Declined(d.told))?;
             }
-            self.say_move(m)?;
+            self.say_at(m.start, Targets(m.told))?;
         }
         for d in declines {
-            self.say_decline(d)?;
+            self.say_at(d.start, Declined(d.told))?;
         }
         Ok(())
     }
@@ -62,10 +53,7 @@ impl Job {
     ) -> Result<(), AllocError> {
         let blank_move = MoveRecord {
             start: 0,
-            told: Image {
-                at: [0; 3],
-                spread: [0; 3],
-            },
+            told: Image::default(),
         };
         let blank_decline = DeclineRecord {
             start: 0,

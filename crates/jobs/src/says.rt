@@ -7,13 +7,13 @@ use units::axis::Side;
 /// A step after its name, which begins with A where it is appended.
 #[derive(Clone, Copy)]
 struct Instruction {
-    letter: &'static str,
+    additive: bool,
     step: FrameStep,
 }
 
 impl fmt::Display for Instruction {
     fn fmt<W: fmt::Write>(&self, f: &mut fmt::Formatter<W>) -> fmt::Result {
-        let a = self.letter;
+        let a = if self.additive { "A" } else { "" };
         match self.step {
             FrameStep::Offset(values) => {
                 let values = Values::from(values);
@@ -119,11 +119,17 @@ impl fmt::Display for Says {
             Block::Frame {
                 change: FrameChange::Replace(step),
                 ..
-            } => f.write(Instruction { letter: "", step }),
+            } => f.write(Instruction {
+                additive: false,
+                step,
+            }),
             Block::Frame {
                 change: FrameChange::Append(step),
                 ..
-            } => f.write(Instruction { letter: "A", step }),
+            } => f.write(Instruction {
+                additive: true,
+                step,
+            }),
             Block::Limit { side, values, .. } => {
                 let name = match side {
                     Side::Lower => "G25",

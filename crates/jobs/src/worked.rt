@@ -16,8 +16,7 @@ impl Report {
     // The first line of a reading, and a line for each step of the chain.
     fn say_reading(&mut self, reading: Reading) -> Result<(), AllocError> {
         self.say(State(reading))?;
-        let chain = reading.chain;
-        for (i, step) in chain.steps[..chain.count].iter().enumerate() {
+        for (i, step) in reading.chain.steps().iter().enumerate() {
             self.say(StepLine {
                 number: i + 1,
                 step: *step,
@@ -48,7 +47,7 @@ impl Report {
         }
     }
 
-    // Answers the lines in their order.
+    // Answers the lines in their order. What was seen lies beside them, since a shift works a list of calls alone.
     fn say_all(&mut self, lines: &[ScriptLine], seen: &[Seen]) -> Result<(), AllocError> {
         let mut seen = seen.iter();
         for line in lines {

@@ -13,7 +13,7 @@ pub struct Line<'a> {
 }
 
 /// A text and a place in it, never beyond its length: what stands before the place has been read, in so many lines.
-// No rest of the text in their stead: the place is told with each line.
+// The text and a place in it, not what is left of it: the place is told with each line.
 #[derive(Clone, Copy)]
 pub struct LineReader<'a> {
     text: &'a [u8],

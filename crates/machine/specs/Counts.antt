@@ -1,23 +1,29 @@
 -- Counts: their ranges, and that the lower of two equally near ones is at most half a count length away.
 use Rattle.std.specs.Prelude.{◌≡◌, ℕ, ◌+◌, ◌-◌, ◌*◌, ◌/◌, ◌≤◌, true, ℤ, pos, negsuc, ◌-ℤ◌, FitsSigned, unsigned_abs}
 use Rattle.std.proofs.Common.{sym, refl, ◌∙◌, ap, subst, arith, to_z, of_z}
+use Rattle.std.proofs.Math.Bool.{and-eq-true_iff}
 use Rattle.std.specs.Int.{w64}
 use Rattle.std.proofs.lemmas.Int.{to_z-of_z, ints}
 use Rattle.units.specs.declared.axis.Axis.{Axis}
 use Rattle.units.specs.declared.axis.Axis.TheVariants.{X, Y, Z}
 use Rattle.units.proofs.Round.{nearest_near}
 use Rattle.machine.specs.Motors.{Increments, Counts}
-use Rattle.units.specs.Axes.{on_axis}
 use Rattle.units.specs.declared.axis.ByAxis.{ByAxis}
 use Rattle.machine.specs.declared.coordinate.Coordinate.{Coordinate}
 use Rattle.machine.specs.declared.increment.Increment.{Increment}
-use Rattle.machine.specs.Ranges.{within}
+use Rattle.machine.specs.Ranges.{within, increment_fits}
 use Rattle.machine.specs.Meaning.{at, each}
-use Rattle.machine.specs.Count.{lengths, lower_count, lower_counts, standing, standing_at, no_counts}
+use Rattle.machine.specs.Count.{increments_fit, lengths, lower_count, lower_counts, standing, standing_at, no_counts}
 use Rattle.units.specs.Axes.{on_axis}
 use Rattle.machine.specs.RangesLemmas.{on_axis_lem, by_axis, same_within}
 use Rattle.machine.specs.Admitted.{coordinates}
 use Rattle.machine.specs.Nearness.{each_fits}
+
+pub length_fits : (i : Increments) → increments_fit i ≡ true → (a : Axis) → increment_fits (on_axis i a) ≡ true
+unfolding increments_fit
+length_fits i e X = ((and-eq-true_iff _ _).0 e).0
+length_fits i e Y = ((and-eq-true_iff _ _).0 ((and-eq-true_iff (increment_fits i.x) _).0 e).1).0
+length_fits i e Z = ((and-eq-true_iff (increment_fits i.y) _).0 ((and-eq-true_iff (increment_fits i.x) _).0 e).1).1
 
 -- each length is that of its axis's increment
 pub length_at : (i : ByAxis Increment) (a : Axis) → on_axis (lengths i) a ≡ (on_axis i a).units

@@ -8,7 +8,7 @@ use Rattle.units.specs.declared.axis.Side.{Side}
 use Rattle.units.specs.declared.axis.Side.TheVariants.{Lower, Upper}
 use Rattle.units.specs.declared.axis.Point.{Point}
 use Rattle.machine.specs.declared.bounds.Bounds.{Bounds}
-use Rattle.machine.specs.Ranges.{within}
+use Rattle.machine.specs.Ranges.{within, increment_fits}
 use Rattle.machine.specs.Meaning.{at, limits, origin}
 
 left : (a b : Bool) → (a && b) ≡ true → a ≡ true
@@ -41,6 +41,14 @@ origin_within n = by_axis n origin zero_on
 pub limit_fits : (b : Bounds) (s : Side) (a : Axis) → unsigned_abs (at (limits b s) a) ≤ 2000000000
 limit_fits b Lower a = on_axis_lem _ b.lower b.low a
 limit_fits b Upper a = on_axis_lem _ b.upper b.high a
+
+pub increment_least : (n : ℕ) → increment_fits n ≡ true → 1 ≤ n
+unfolding increment_fits
+increment_least n e = leb-true _ _ (left _ _ e)
+
+pub increment_most : (n : ℕ) → increment_fits n ≡ true → n ≤ 100000
+unfolding increment_fits
+increment_most n e = leb-true _ _ (right (nat_le 1 n) _ e)
 
 pub same_bounds : (b c : Bounds) → b.lower ≡ c.lower → b.upper ≡ c.upper → b ≡ c
 same_bounds b c p q =

@@ -8,6 +8,7 @@ use units::fault::Fault;
 
 /// What takes moves in machine coordinates: boxes, topmost first, an increment for each axis, a rounding, and the position held.
 /// Axes are numbered from 1 and levels from 0, the topmost box; one that is not there gets `Fault::Argument`.
+// By number, not `Axis`: a question may ask for an axis that is not there.
 pub trait MachineEnd {
     ghost meaning: { Self → Meaning };
 

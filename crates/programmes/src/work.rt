@@ -16,7 +16,8 @@ use units::fault::Fault;
 /// How many bytes a text may have.
 pub const LONGEST: usize = 65_536;
 
-// Files what a block was answered; both rolls have a place left. They are the caller's, so no struct holds the two.
+// Files what a block was answered; both rolls have a place left.
+// No struct of the two rolls: each caller has two, and one would be made for this call alone.
 fn file(
     reply: Result<Reply, Fault>,
     start: usize,

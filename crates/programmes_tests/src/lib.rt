@@ -72,10 +72,7 @@ pub fn work_into_rolls(
     moves_used: usize,
     declines_used: usize,
 ) -> Result<Outcome, Fault> {
-    let told = Image {
-        at: [0; 3],
-        spread: [0; 3],
-    };
+    let told = Image::default();
     let mut moves = [MoveRecord { start: 0, told }; 4];
     let told = Fault::Argument;
     let mut declines = [DeclineRecord { start: 0, told }; 4];

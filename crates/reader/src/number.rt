@@ -23,7 +23,7 @@ fn read_magnitude(s: &[u8]) -> Result<Magnitude, usize>
     let mut value: u64 = 0;
     let mut digits: usize = 0;
     let mut decimals: usize = 0;
-    // No option of a count in its stead: the count is right with or without a point.
+    // A flag and a count, not an option of one: without a point the count is 0, which is what is told.
     let mut point = false;
     for (i, b) in s.iter().enumerate() {
         match *b {
@@ -88,8 +88,8 @@ pub fn read_turn(s: &[u8]) -> Result<Number, usize>
     }
 }
 
-// Not `read_magnitude` with another limit: a code has no point, so each of its bytes is a digit.
 /// 1 to 8 digits; else the place of the first wrong byte.
+// Not `read_magnitude` with another limit: a code has no point, so each of its bytes is a digit.
 pub fn read_code(s: &[u8]) -> Result<u32, usize>
     ensures { MatchResult result (λ n. IsCode s.now × (n ≡ value_of 10 s.now)) (FirstWrong IsCode s.now) }
 {

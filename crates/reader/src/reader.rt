@@ -8,7 +8,7 @@ use crate::word::read_word;
 use units::fault::Fault;
 
 /// A block and a place in it, never beyond its length: what stands before the place has been read.
-// A rule of the project; the place is told with each word.
+// The bytes and a place in them, by a rule of the project: the place is told with each word.
 #[derive(Clone, Copy)]
 pub struct BlockReader<'a> {
     bytes: &'a [u8],

@@ -118,16 +118,16 @@ impl<'a> Words<'a> {
 
 /// What a line calls for; none where it is not understood.
 pub fn call(line: &[u8]) -> Option<Call<'_>> {
-    if let [b'b', b'l', b'o', b'c', b'k', rest @ ..] = line {
-        match rest {
-            [] => return Some(Call::Block(rest)),
-            [b' ', text @ ..] => return Some(Call::Block(text)),
-            _ => return None,
-        }
+    if let Some(rest) = line.strip_prefix(b"block") {
+        return match rest {
+            [] => Some(Call::Block(rest)),
+            [b' ', text @ ..] => Some(Call::Block(text)),
+            _ => None,
+        };
     }
     let mut words = Words::of(line);
     let call = words.take_call()?;
-    if words.at_end() { Some(call) } else { None }
+    words.at_end().then_some(call)
 }
 
 /// An empty line or a remark.

@@ -11,10 +11,10 @@ fn extended(value: u64, b: u8, most: u64) -> Option<u64>
         return None;
     }
     let next = value.checked_mul(10)?.checked_add(u64::from(b - b'0'))?;
-    if next > most { None } else { Some(next) }
+    (next <= most).then_some(next)
 }
 
-// Digits alone, at least one, no larger than `most`.
+// Digits alone, at least one, no larger than `most`. A block's numbers end at so many digits, these at a largest value.
 fn magnitude(digits: &[u8], most: u64) -> Option<u64>
     requires { most ≤ 9223372036854775808 }
     ensures { result ≡ magnitude_of most digits.now }

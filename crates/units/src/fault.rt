@@ -9,6 +9,7 @@ pub mod told;
 
 /// One case for each of the 17 declines. A place counts bytes from 0 in the block, an axis is the one told,
 /// a step counts from 1 at the outermost, a level from 0 at the topmost box.
+// Steps and levels are the numbers that are told, 0 and 9 of a step among them.
 #[derive(Clone, Copy, PartialEq, Eq, Debug)]
 pub enum Fault {
     /// 1: the block has more than 512 bytes.

@@ -1,5 +1,5 @@
 // Numbers whose range is part of their type.
-// Each unit has a type and a maker of its own, not one generic by its limits: so no tolerance stands for a length.
+// Types and makers of their own, not one generic by its limits: they differ in sign and width, and none may stand for another.
 ghost use Rattle.std.specs.Prelude.{ℕ, ◌<◌, ◌≤◌, ℤ, unsigned_abs};
 
 pub mod make;

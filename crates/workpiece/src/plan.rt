@@ -85,6 +85,7 @@ fn placed(moved: [bool; 3], at: [Option<i64>; 3]) -> Result<[Option<Length>; 3],
     Ok(values_at(at))
 }
 
+// An axis that is open is not moved, so its 0 is neither pushed nor tested.
 fn values_or(values: [Option<Length>; 3]) -> [Length; 3]
     ensures { result ≡ values_or values }
 {
@@ -97,7 +98,7 @@ fn kept_at<T: Copy>(moved: bool, new: T, old: T) -> T
     if moved { new } else { old }
 }
 
-// Written out: the proof of a closure over the index does not close for signed numbers.
+// Written out: the proof of a closure over the index does not close where the values are signed, as targets are.
 fn kept<T: Copy>(moved: [bool; 3], new: [T; 3], old: [T; 3]) -> [T; 3]
     ensures { (d : T) → result ≡ kept d moved new old }
 {

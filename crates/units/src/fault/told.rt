@@ -60,6 +60,7 @@ impl Fault {
     }
 
     /// A fault of the chain, of pushing or of the machine end, told at the place of a block's word; any other stays.
+    // Until then its place is 0: one enum for all faults is a rule of the project, and an option of a place would say that a told fault may lack one.
     pub fn at(self, place: usize) -> Fault
         ensures { result ≡ at_place place self }
     {

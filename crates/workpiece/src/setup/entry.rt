@@ -12,6 +12,7 @@ use units::axis::Point;
 use units::fault::Fault;
 use units::quantity::Length;
 
+// By name: a point has no index, and `?` ends it at the first that is no length.
 fn lengths(p: Point) -> Option<[Length; 3]>
     ensures { result ≡ lengths_of p }
 {
