@@ -1,3 +1,4 @@
+//! The typed block: what the words of a block say together, or the first of its faults.
 #![tactic(auto)]
 
 pub mod block;

@@ -131,6 +131,7 @@ impl fmt::Display for Says {
                 step,
             }),
             Block::Limit { side, values, .. } => {
+                // Written here alone.
                 let name = match side {
                     Side::Lower => "G25",
                     Side::Upper => "G26",

@@ -25,6 +25,7 @@ pub struct Outcome {
     pub declined: Option<(usize, u8)>,
 }
 
+// As the benchmark's: no test rests on a benchmark.
 fn end() -> Result<ScaleEnd, Fault> {
     let corner = |at: i64| Point {
         x: at,

@@ -12,6 +12,7 @@ pub enum Motion {
     Linear,
 }
 
+// Each is written by its number, as `g_number` tells it.
 impl fmt::Display for Motion {
     ghost use Rattle.reader.specs.declared.functions.GFunction.{GFunction};
 

@@ -22,6 +22,7 @@ impl Chain {
     pub const MOST: usize = 8;
 
     /// No step.
+    // Written out: a step has no default for the array.
     pub fn empty() -> Chain
         ensures { steps_of result ≡ [] }
     {
