@@ -20,17 +20,11 @@ fn gather(bytes: &[u8], g: &mut Gathered) -> Result<(), Fault>
     ensures { MatchResult result (λ _. Gathers bytes.now g.new) (Stops bytes.now) }
 {
     for read in BlockReader::new(bytes) {
-        // No `?`: it would copy each word once more.
-        match read {
-            Ok(word) => {
-                if let Some(x) = word.item() {
-                    if !g.slots.put(x) {
-                        return Err(Fault::Repeated { place: x.place });
-                    }
-                    g.order.note(x);
-                }
+        if let Some(x) = read?.item() {
+            if !g.slots.put(x) {
+                return Err(Fault::Repeated { place: x.place });
             }
-            Err(fault) => return Err(fault),
+            g.order.note(x);
         }
     }
     Ok(())

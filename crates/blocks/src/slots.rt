@@ -10,7 +10,7 @@ use units::axis::{Axis, ByAxis};
 /// How many M words a block may have.
 const M_WORDS: usize = 5;
 
-// Each of these fills a slot and tells whether it was free; where it was not, all stays.
+// Each of these fills a slot and tells whether it was free; where it was not, all stays. A flag is no option: it has no value to hold.
 fn fill<T: Copy>(slot: &mut Option<T>, value: T) -> bool
     ensures free { result ≡ not (is_some slot.old) }
     ensures filled { result ≡ true → slot.new ≡ Some value }

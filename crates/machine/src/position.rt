@@ -13,6 +13,7 @@ fn held_on<E: MachineEnd>(end: &E, axis: Axis) -> i64
 }
 
 /// The position that an end holds.
+// By name, as `ByAxis` says.
 pub fn held_position<E: MachineEnd>(end: &E) -> Point
     ensures { result ≡ (E.meaning end.now).held }
 {

@@ -12,7 +12,7 @@ pub enum Motion {
     Linear,
 }
 
-// Each is written by its number, as `g_number` tells it.
+// Each is written by its number, as `g_number` tells it; an impl for each type, since the gate takes none from a macro of one's own.
 impl fmt::Display for Motion {
     ghost use Rattle.reader.specs.declared.functions.GFunction.{GFunction};
 

@@ -14,6 +14,7 @@ impl<'a> Words<'a> {
         u64::try_from(self.take_number()?).ok()
     }
 
+    // By name: a point has no index.
     fn take_point(&mut self) -> Option<Point> {
         let x = self.take_number()?;
         let y = self.take_number()?;

@@ -82,7 +82,7 @@ pub struct Point {
 }
 
 /// One value for each axis.
-// No `map`: what is made of three fields by name ends at the first that fails or makes a point, and is no longer so. Arrays of three stand where an index goes over them.
+// No `map`: what is made of the three ends at the first that fails, or makes a point, and by name is no longer. Arrays of three stand where an index goes over them.
 #[derive(Clone, Copy, PartialEq, Eq, Debug, Default)]
 pub struct ByAxis<T> {
     pub x: T,

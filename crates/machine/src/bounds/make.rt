@@ -21,7 +21,7 @@ fn reached(v: i64) -> bool
     v.unsigned_abs() <= REACH
 }
 
-// Whether every coordinate can be a limit.
+// Whether every coordinate can be a limit; by name, since a point has no index.
 #[tactic(auto, unfolding(crate::specs::Ranges::within))]
 fn in_reach(p: Point) -> bool
     ensures { result ≡ within 2000000000 p }
@@ -75,6 +75,7 @@ impl Bounds {
     }
 
     /// The coordinates of a move that this box admits.
+    // By name, as `ByAxis` says.
     pub(crate) fn admitted(&self, to: Point) -> Result<ByAxis<Coordinate>, Fault>
         ensures { AdmittedBy self.now to result }
     {
@@ -87,6 +88,7 @@ impl Bounds {
     }
 
     /// What a move gets from this box alone.
+    // By name: `?` ends it at the lowest axis outside; the proof of a loop over the axes did not close.
     pub fn admit(&self, to: Point) -> Result<(), Fault>
         ensures { result ≡ reply (self.now ∷ []) to }
     {

@@ -19,6 +19,7 @@ impl CountEnd {
     pub fn new(increments: Increments, bounds: Bounds) -> Result<CountEnd, Fault>
         ensures { MadeWhere (increments_fit increments) (λ e. count_meaning (lengths e.increments) e.bounds e.counts ≡ count_meaning increments bounds no_counts) result }
     {
+        // By name, as `ByAxis` says.
         let increments = ByAxis {
             x: Increment::new(increments.x)?,
             y: Increment::new(increments.y)?,

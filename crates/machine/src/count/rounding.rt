@@ -41,6 +41,7 @@ impl Increment {
 }
 
 /// The counts to which a move's coordinates are rounded.
+// By name, as `ByAxis` says.
 pub(crate) fn lower_counts(increments: ByAxis<Increment>, to: ByAxis<Coordinate>) -> Counts
     ensures value { result ≡ lower_counts (lengths increments) (coordinates to) }
     ensures bound { within 2000050000 (standing_at (lengths increments) result) ≡ true }

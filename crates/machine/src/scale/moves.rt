@@ -39,6 +39,7 @@ impl Increment {
             * i64::from(self.units)
     }
 
+    // By name, as `ByAxis` says.
     fn multiples(self, to: ByAxis<Coordinate>) -> Point
         ensures value { result ≡ each (λ a. nearest_multiple self.units) (coordinates to) }
         ensures bound { within 2000050000 result ≡ true }
@@ -51,6 +52,7 @@ impl Increment {
     }
 }
 
+// The one-line calls are the count end's: see there.
 impl MachineEnd for ScaleEnd {
     ghost meaning = { λ e. scale_meaning e.increment.units e.bounds e.position };
 
