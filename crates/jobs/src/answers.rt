@@ -85,19 +85,28 @@ impl fmt::Display for Targets {
     }
 }
 
-/// The letters of some axes, each after a text.
+/// The letters of some axes, each as `letters` writes it: whole texts, since a letter by itself costs more to write.
 #[derive(Clone, Copy)]
 pub(crate) struct Letters {
     pub axes: [bool; 3],
-    pub before: &'static str,
+    pub letters: [&'static str; 3],
+}
+
+impl Letters {
+    /// Each letter after a space.
+    pub(crate) fn spaced(axes: [bool; 3]) -> Letters {
+        Letters {
+            axes,
+            letters: [" X", " Y", " Z"],
+        }
+    }
 }
 
 impl fmt::Display for Letters {
     fn fmt<W: fmt::Write>(&self, f: &mut fmt::Formatter<W>) -> fmt::Result {
-        let before = self.before;
-        for (letter, named) in "XYZ".chars().zip(self.axes) {
-            if named {
-                write!(f, "{before}{letter}")?;
+        for (letter, named) in self.letters.iter().zip(&self.axes) {
+            if *named {
+                f.write_str(letter)?;
             }
         }
         Ok(())
@@ -113,7 +122,7 @@ impl fmt::Display for Moved {
         let none = if self.0.moved == [false; 3] { "-" } else { "" };
         let axes = Letters {
             axes: self.0.moved,
-            before: "",
+            letters: ["X", "Y", "Z"],
         };
         let targets = Targets(self.0.image);
         write!(f, "moved {none}{axes} {targets}")
@@ -151,9 +160,10 @@ impl From<[Option<Factor>; 3]> for Values {
 
 impl fmt::Display for Values {
     fn fmt<W: fmt::Write>(&self, f: &mut fmt::Formatter<W>) -> fmt::Result {
-        for (letter, value) in "XYZ".chars().zip(self.0) {
+        for (letter, value) in [" X ", " Y ", " Z "].iter().zip(&self.0) {
             if let Some(value) = value {
-                write!(f, " {letter} {value}")?;
+                f.write_str(letter)?;
+                f.write(*value)?;
             }
         }
         Ok(())
@@ -180,7 +190,7 @@ impl fmt::Display for StepLine {
                 write!(f, "step {n} scale{values}")
             }
             Step::Mirror(axes) => {
-                let axes = Letters { axes, before: " " };
+                let axes = Letters::spaced(axes);
                 write!(f, "step {n} mirror{axes}")
             }
             Step::Turn(plane, angle) => {

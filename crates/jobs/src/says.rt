@@ -28,7 +28,7 @@ impl fmt::Display for Instruction {
                 write!(f, " {a}SCALE{values}")
             }
             FrameStep::Mirror(axes) => {
-                let axes = Letters { axes, before: " " };
+                let axes = Letters::spaced(axes);
                 write!(f, " {a}MIRROR{axes}")
             }
         }

@@ -9,14 +9,13 @@ use Rattle.units.specs.declared.axis.Axis.TheVariants.{X, Y, Z}
 use Rattle.units.proofs.Round.{nearest_near}
 use Rattle.machine.specs.Motors.{Increments, Counts}
 use Rattle.units.specs.declared.axis.ByAxis.{ByAxis}
-use Rattle.machine.specs.declared.coordinate.Coordinate.{Coordinate}
 use Rattle.machine.specs.declared.increment.Increment.{Increment}
 use Rattle.machine.specs.Ranges.{within, increment_fits}
 use Rattle.machine.specs.Meaning.{at, each}
 use Rattle.machine.specs.Count.{increments_fit, lengths, lower_count, lower_counts, standing, standing_at, no_counts}
 use Rattle.units.specs.Axes.{on_axis}
-use Rattle.machine.specs.RangesLemmas.{on_axis_lem, by_axis, same_within}
-use Rattle.machine.specs.Admitted.{coordinates}
+use Rattle.machine.specs.RangesLemmas.{on_axis_lem, by_axis, same_within, increment_least, increment_most, in_range}
+use Rattle.units.specs.declared.axis.Point.{Point}
 use Rattle.machine.specs.Nearness.{each_fits}
 
 pub length_fits : (i : Increments) → increments_fit i ≡ true → (a : Axis) → increment_fits (on_axis i a) ≡ true
@@ -41,6 +40,11 @@ most_length i X = i.x.most
 most_length i Y = i.y.most
 most_length i Z = i.z.most
 
+-- so they are in range together
+pub lengths_fit : (i : ByAxis Increment) → increments_fit (lengths i) ≡ true
+unfolding increments_fit
+lengths_fit i = (and-eq-true_iff _ _).1 (in_range i.x, (and-eq-true_iff _ _).1 (in_range i.y, in_range i.z))
+
 down_near : (d n : ℕ) → 1 ≤ d → (2 * ((2 * n + (d - 1)) / (2 * d) * d) ≤ 2 * n + d) × (2 * n ≤ 2 * ((2 * n + (d - 1)) / (2 * d) * d) + d)
 down_near d n h = grind arith
 
@@ -54,10 +58,10 @@ count_near d (negsuc n) h = (nearest_near (negsuc n) d h).close
 abbrev rounded : Increments → Axis → ℤ → ℤ
 rounded i a v = standing (on_axis i a) (lower_count (on_axis i a) v)
 
-pub counts_within : (i : ByAxis Increment) (c : ByAxis Coordinate) (k : Counts) → k ≡ lower_counts (lengths i) (coordinates c) → within 2000050000 (standing_at (lengths i) k) ≡ true
-counts_within i c k e =
-    same_within _ (standing_at (lengths i) k) (each (rounded (lengths i)) (coordinates c)) (ap (standing_at (lengths i)) e)
-    (each_fits (on_axis (lengths i)) (rounded (lengths i)) c (most_length i) (λ a v. count_near _ v (least_length i a)))
+pub counts_within : (i : Increments) (p : Point) (k : Counts) → increments_fit i ≡ true → within 2000000000 p ≡ true → k ≡ lower_counts i p → within 2000050000 (standing_at i k) ≡ true
+counts_within i p k s w e =
+    same_within _ (standing_at i k) (each (rounded i) p) (ap (standing_at i) e)
+    (each_fits (on_axis i) (rounded i) p (λ a. increment_most _ (length_fits i s a)) w (λ a v. count_near _ v (increment_least _ (length_fits i s a))))
 
 pub start_within : (i : Increments) → within 2000050000 (standing_at i no_counts) ≡ true
 start_within i = by_axis _ (standing_at i no_counts) nought
@@ -72,8 +76,7 @@ on i k w X = on_axis_lem _ (standing_at i k) w X
 on i k w Y = on_axis_lem _ (standing_at i k) w Y
 on i k w Z = on_axis_lem _ (standing_at i k) w Z
 
-pub standing_fits : (i : ByAxis Increment) (k : Counts) → within 2000050000 (standing_at (lengths i) k) ≡ true → (a : Axis) (d : Increment) (v : ℤ) → FitsSigned w64 v → d ≡ on_axis i a → v ≡ on_axis k a → unsigned_abs (standing d.units (to_z w64 (of_z w64 v))) ≤ 2000050000
+pub standing_fits : (i : Increments) (k : Counts) → within 2000050000 (standing_at i k) ≡ true → (a : Axis) (d : ℕ) (v : ℤ) → FitsSigned w64 v → d ≡ on_axis i a → v ≡ on_axis k a → unsigned_abs (standing d (to_z w64 (of_z w64 v))) ≤ 2000050000
 standing_fits i k w a d v f e h =
-    let long : on_axis (lengths i) a ≡ d.units = length_at i a ∙ ap (λ (n : Increment). n.units) (sym e) in
-    let same : standing (on_axis (lengths i) a) (on_axis k a) ≡ standing d.units (to_z w64 (of_z w64 v)) = ap (λ z. standing (on_axis (lengths i) a) z) (sym h ∙ sym (to_z-of_z w64 v f)) ∙ ap (λ n. standing n (to_z w64 (of_z w64 v))) long in
-    subst (λ z. unsigned_abs z ≤ 2000050000) same (on (lengths i) k w a)
+    let same : standing (on_axis i a) (on_axis k a) ≡ standing d (to_z w64 (of_z w64 v)) = ap (λ z. standing (on_axis i a) z) (sym h ∙ sym (to_z-of_z w64 v f)) ∙ ap (λ n. standing n (to_z w64 (of_z w64 v))) (sym e) in
+    subst (λ z. unsigned_abs z ≤ 2000050000) same (on i k w a)

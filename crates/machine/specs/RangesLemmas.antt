@@ -8,6 +8,7 @@ use Rattle.units.specs.declared.axis.Side.{Side}
 use Rattle.units.specs.declared.axis.Side.TheVariants.{Lower, Upper}
 use Rattle.units.specs.declared.axis.Point.{Point}
 use Rattle.machine.specs.declared.bounds.Bounds.{Bounds}
+use Rattle.machine.specs.declared.increment.Increment.{Increment}
 use Rattle.machine.specs.Ranges.{within, increment_fits}
 use Rattle.machine.specs.Meaning.{at, limits, origin}
 
@@ -49,6 +50,10 @@ increment_least n e = leb-true _ _ (left _ _ e)
 pub increment_most : (n : ℕ) → increment_fits n ≡ true → n ≤ 100000
 unfolding increment_fits
 increment_most n e = leb-true _ _ (right (nat_le 1 n) _ e)
+
+pub in_range : (i : Increment) → increment_fits i.units ≡ true
+unfolding increment_fits
+in_range i = both _ _ (le-leb _ _ i.least) (le-leb _ _ i.most)
 
 pub same_bounds : (b c : Bounds) → b.lower ≡ c.lower → b.upper ≡ c.upper → b ≡ c
 same_bounds b c p q =

@@ -2,6 +2,7 @@
 #![tactic(auto)]
 
 pub mod area;
+pub mod axes;
 pub mod bounds;
 mod coordinate;
 pub mod count;

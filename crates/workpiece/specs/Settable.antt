@@ -5,6 +5,7 @@ use Rattle.units.specs.Quantities.{zero_length}
 use Rattle.reader.specs.declared.functions.Settable.{Settable}
 use Rattle.reader.specs.declared.functions.Settable.TheVariants.{G500, G54, G55, G56, G57, G58, G59}
 use Rattle.workpiece.specs.declared.settable.SettableFrame.{SettableFrame}
+use Rattle.workpiece.specs.declared.settable.SettableFrames.{SettableFrames}
 
 -- 0 stands for G500, which has no record
 abbrev pub frame_number : Settable → ℕ
@@ -30,6 +31,9 @@ numbered_frame (pos n) =
     (cond (n == 4) (Some G57)
     (cond (n == 5) (Some G58)
     (cond (n == 6) (Some G59) None)))))
+
+abbrev pub records_of : SettableFrames → List SettableFrame
+records_of t = t.records
 
 abbrev pub no_offset : List Length
 no_offset = zero_length ∷ zero_length ∷ zero_length ∷ []

@@ -13,7 +13,7 @@ use Rattle.workpiece.specs.declared.setup.Setup.{Setup}
 use Rattle.workpiece.specs.Force.{start_force}
 use Rattle.workpiece.specs.Modes.{start_modes}
 use Rattle.workpiece.specs.Places.{all_open}
-use Rattle.workpiece.specs.Settable.{no_records}
+use Rattle.workpiece.specs.Settable.{records_of, no_records}
 
 pub record SetupState : Type 0 where
   pub tolerance : Tolerance
@@ -29,7 +29,7 @@ abbrev pub setup_of : Setup → SetupState
 setup_of s = record {
   tolerance = s.frames.tolerance;
   steps = steps_of s.frames.chain;
-  records = s.frames.settable;
+  records = records_of s.frames.settable;
   modes = s.modes;
   force = s.force;
   values = s.values;

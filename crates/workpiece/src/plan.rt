@@ -1,6 +1,7 @@
 // Which axes a block moves, and where to.
 ghost use Rattle.std.specs.Prelude.{◌≡◌};
 ghost use Rattle.chains.specs.Chains.{steps_of};
+ghost use Rattle.workpiece.specs.Settable.{records_of};
 ghost use Rattle.workpiece.specs.Plans.{named_by, moved_in, standings, is_open, is_far, values_at, placed as placed_by, values_or, image_in, kept_at, kept, kept_image, reckoned, opening_all};
 
 use crate::axes::{each_axis, first_of};
@@ -136,7 +137,7 @@ impl Frames {
         moved: [bool; 3],
         values: [Length; 3],
     ) -> Result<Image, Fault>
-        ensures { result ≡ image_in force (steps_of self.now.chain) self.now.settable self.now.tolerance moved values }
+        ensures { result ≡ image_in force (steps_of self.now.chain) (records_of self.now.settable) self.now.tolerance moved values }
     {
         if force.chained {
             let offset = self.settable.offset(force.settable);
@@ -155,7 +156,7 @@ impl Frames {
         values: [Option<Length>; 3],
         image: Image,
     ) -> Result<Plan, Fault>
-        ensures { result ≡ reckoned force (steps_of self.now.chain) self.now.settable self.now.tolerance distance words values image }
+        ensures { result ≡ reckoned force (steps_of self.now.chain) (records_of self.now.settable) self.now.tolerance distance words values image }
     {
         let moved = self.moved_in(force, named_by(words));
         let values = placed(moved, standings_of(distance, words, values))?;

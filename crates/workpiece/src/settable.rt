@@ -1,5 +1,4 @@
 // The settable frames G54 to G59.
-use std::marker::Model;
 use units::quantity::Length;
 
 pub mod table;
@@ -11,18 +10,8 @@ pub struct SettableFrame {
 }
 
 /// The six records, G54 first.
+// No `Model`: frames and setups hold it and are copied, and a struct that holds one with a model is not copied where it is passed on.
 #[derive(Clone, Copy)]
 pub struct SettableFrames {
     records: [SettableFrame; 6],
-}
-
-impl Model for SettableFrames {
-    ghost use Rattle.std.specs.Prelude.{List};
-    ghost use Rattle.workpiece.specs.declared.settable.SettableFrame.{SettableFrame};
-
-    ghost Value = { List SettableFrame };
-
-    ghost view = { λ t. t.records };
-
-    ghost inverse = { λ records. record { records = records } };
 }

@@ -1,6 +1,6 @@
 // Reading and entering settable frames.
 ghost use Rattle.std.specs.Prelude.{◌≡◌, List, [], ◌∷◌};
-ghost use Rattle.workpiece.specs.Settable.{frame_number, record_place, numbered_frame, no_records, offset_of, entered};
+ghost use Rattle.workpiece.specs.Settable.{frame_number, record_place, numbered_frame, records_of, no_records, offset_of, entered};
 
 use crate::settable::{SettableFrame, SettableFrames};
 use reader::functions::Settable;
@@ -48,7 +48,7 @@ impl SettableFrame {
 impl SettableFrames {
     /// Six records of no offset.
     pub fn new() -> SettableFrames
-        ensures { result ≡ no_records }
+        ensures { records_of result ≡ no_records }
     {
         SettableFrames {
             records: [SettableFrame {
@@ -59,7 +59,7 @@ impl SettableFrames {
 
     /// The offset of the selected frame; none, that is 0 on each axis, under G500.
     pub fn offset(&self, settable: Settable) -> [Length; 3]
-        ensures { result ≡ offset_of self.now (frame_number settable) }
+        ensures { result ≡ offset_of (records_of self.now) (frame_number settable) }
     {
         match record_place(settable) {
             Some(n) => self.records[n].offset,
@@ -69,7 +69,7 @@ impl SettableFrames {
 
     /// Enters the offset of a frame; G500 has none to enter.
     pub fn enter(&mut self, settable: Settable, offset: [Length; 3])
-        ensures { self.new ≡ entered self.old (frame_number settable) offset }
+        ensures { records_of self.new ≡ entered (records_of self.old) (frame_number settable) offset }
     {
         if let Some(n) = record_place(settable) {
             let record = &mut self.records[n];
